@@ -1,18 +1,12 @@
 //! Merges of memtables and sorted files, checked by the bytes written.
 
-ghost use Rattle.std.specs.Prelude.{◌<◌, OnOk};
-ghost use Rattle.sorted_file.specs.PartialFiles.{CanGoOn};
-
-use crate::tests::memory::files::merge;
-use cell_key::{Refusal, Row, Stamp};
-use compaction::{Input, merge_on};
-use file_store::{Files, MemFiles, read_whole};
+use crate::tests::memory::files::{merge, write};
+use cell_key::{Refusal, Stamp};
+use file_store::{MemFiles, read_whole};
 use memtable::Memtable;
-use sorted_file::{LockIndex, PartialFile, SortedFile};
+use sorted_file::SortedFile;
 use std::alloc::Global;
 use std::test::Fail;
-use testing::FILE_LIMIT;
-use testing::edits::edits_of;
 
 /// The file with 3 at the stamp 3, an erasure at 2, and 7 at 1.
 const ERASURE_KEPT: &[u8] = b"TABLET02\
@@ -36,11 +30,9 @@ const NEWER: [(Stamp, Option<&[u8]>); 2] = [(2, None), (1, Some(b"7"))];
 
 /// A memtable with these entries.
 fn table_of(alloc: Global, writes: &[(Stamp, Option<&[u8]>)]) -> Result<Memtable, Refusal> {
-    let row = Row::new(alloc, b"a")?;
     let mut table = Memtable::new(alloc);
     for (stamp, value) in writes {
-        let edits = edits_of(alloc, &row, *stamp, *value, None)?;
-        table.apply(&row, edits)?;
+        write(alloc, &mut table, b"a", *stamp, *value, None)?;
     }
     Ok(table)
 }
@@ -80,137 +72,5 @@ fn newest_wins(rt: HostRuntime) -> Result<(), Fail> {
     for (keep_erasures, bytes) in [(true, ERASURE_KEPT), (false, ERASURE_DROPPED)] {
         assert!(rt; are_merged(rt.alloc(), keep_erasures, bytes)?);
     }
-    Ok(())
-}
-
-/// The bytes of a step, and how many steps a merge of the newer memtable and the older file then has. The entries of the
-/// merge have 23, 22 and 23 bytes.
-const STEPS: [(usize, usize); 6] = [(1, 4), (22, 4), (24, 2), (45, 2), (68, 2), (69, 1)];
-
-/// One step of a merge of a memtable and a file.
-fn step<F: Files>(
-    alloc: Global,
-    newer: &Memtable,
-    older: &SortedFile,
-    partial: &mut PartialFile<F::Writing>,
-    budget: usize,
-    files: &mut F,
-) -> Result<bool, Refusal>
-    requires some { 0 < budget }
-    requires able { CanGoOn F.has F.writes_to partial.old }
-    ensures able { OnOk result (CanGoOn F.has F.writes_to partial.new) }
-{
-    let next = Vec::from_slice(alloc, partial.next())?;
-    let mut sources = Vec::new(alloc);
-    sources.push(Input::Memtable(newer.cursor(&next)))?;
-    sources.push(Input::File(older.cursor(&next)))?;
-    merge_on(partial, sources, budget, &LockIndex::new(alloc), files)
-}
-
-/// Makes four steps of a merge at most; answers how many there were, or 0 if there are more.
-fn few_steps<F: Files>(
-    alloc: Global,
-    newer: &Memtable,
-    older: &SortedFile,
-    partial: &mut PartialFile<F::Writing>,
-    budget: usize,
-    files: &mut F,
-) -> Result<usize, Refusal>
-    requires some { 0 < budget }
-    requires able { CanGoOn F.has F.writes_to partial.old }
-    ensures able { OnOk result (CanGoOn F.has F.writes_to partial.new) }
-{
-    if !step(alloc, newer, older, partial, budget, files)? {
-        return Ok(1);
-    }
-    if !step(alloc, newer, older, partial, budget, files)? {
-        return Ok(2);
-    }
-    if !step(alloc, newer, older, partial, budget, files)? {
-        return Ok(3);
-    }
-    if !step(alloc, newer, older, partial, budget, files)? {
-        return Ok(4);
-    }
-    Ok(0)
-}
-
-/// Writes the merge of a memtable and a file in steps as the file 3; answers how many there were, or 0 if there would be
-/// more than four, or if the budget is 0.
-fn merge_in_steps<F: Files>(
-    alloc: Global,
-    newer: &Memtable,
-    older: &SortedFile,
-    keep_erasures: bool,
-    budget: usize,
-    files: &mut F,
-) -> Result<usize, Refusal> {
-    if budget == 0 {
-        return Ok(0);
-    }
-    let mut partial = PartialFile::begin(alloc, 3, keep_erasures, FILE_LIMIT, files)?;
-    let steps = few_steps(alloc, newer, older, &mut partial, budget, files)?;
-    let _file = partial.finish(files)?;
-    Ok(steps)
-}
-
-/// Whether the merge of the newer memtable and the older file gives these bytes in so many steps.
-fn are_merged_in(
-    alloc: Global,
-    keep_erasures: bool,
-    budget: usize,
-    steps: usize,
-    bytes: &[u8],
-) -> Result<bool, Refusal> {
-    let mut files = MemFiles::new(alloc);
-    let older = older_file(alloc, &mut files)?;
-    let newer = table_of(alloc, &NEWER)?;
-    let taken = merge_in_steps(alloc, &newer, &older, keep_erasures, budget, &mut files)?;
-    match read_whole(alloc, &mut files, 3) {
-        Ok(Some(written)) => Ok(taken == steps && written.as_slice() == bytes),
-        _ => Ok(false),
-    }
-}
-
-#[test]
-fn steps_write_the_same_file(rt: HostRuntime) -> Result<(), Fail> {
-    for (budget, steps) in STEPS {
-        assert!(rt; are_merged_in(rt.alloc(), true, budget, steps, ERASURE_KEPT)?);
-        assert!(rt; are_merged_in(rt.alloc(), false, budget, steps, ERASURE_DROPPED)?);
-    }
-    Ok(())
-}
-
-/// A memtable with values of 9,000 bytes in 24 rows, at this stamp.
-fn large_table(alloc: Global, stamp: Stamp) -> Result<Memtable, Refusal> {
-    let value = vec![in alloc; 7; 9_000]?;
-    let mut table = Memtable::new(alloc);
-    for number in 0..24 {
-        let row = Row::new(alloc, &[number])?;
-        let edits = edits_of(alloc, &row, stamp, Some(&value), None)?;
-        table.apply(&row, edits)?;
-    }
-    Ok(table)
-}
-
-/// Whether a merge in steps of some 120,000 bytes writes the bytes that a merge at once writes, of several blocks.
-fn is_large_merged(alloc: Global) -> Result<bool, Refusal> {
-    let mut files = MemFiles::new(alloc);
-    let table = large_table(alloc, 1)?;
-    merge(alloc, &table, None, true, 1, &mut files)?;
-    let older = SortedFile::open(alloc, 1, &mut files)?;
-    let newer = large_table(alloc, 2)?;
-    merge(alloc, &newer, Some(&older), true, 2, &mut files)?;
-    let steps = merge_in_steps(alloc, &newer, &older, true, 120_000, &mut files)?;
-    let once = read_whole(alloc, &mut files, 2);
-    match (once, read_whole(alloc, &mut files, 3)) {
-        (Ok(Some(once)), Ok(Some(written))) => Ok(steps == 4 && once == written),
-        _ => Ok(false),
-    }
-}
-
-#[test]
-fn steps_write_large_files(rt: HostRuntime) -> Result<(), Fail> {
-    assert!(rt; is_large_merged(rt.alloc())?);
     Ok(())
 }

@@ -1,386 +1,433 @@
-//! Files and the oracle's mark in real folders.
+//! Files and the oracle's mark in real folders: tables of steps.
 
-use cell_key::MOST_STAMP;
+use crate::tests::memory::files::{merge_within, write};
+use cell_key::{MOST_STAMP, Refusal, Stamp};
 use file_store::{DirFiles, FileFault, Files};
-use oracle::{DirMark, MarkStore};
+use memtable::Memtable;
+use oracle::{DirMark, MarkFault, MarkStore};
+use std::alloc::Global;
 use std::os::unix::fs::symlink;
 use std::test::Fail;
 use std::{fs, io, process};
 
-/// A new folder with this name in the machine's temporary folder.
-pub(super) fn new_folder(rt: &HostRuntime, name: &str) -> io::Result<String> {
-    testing::folders::new_folder(rt, process::id(rt.process()), name)
+/// What another program does to a name in the folder, or finds there. The name of the folder itself is empty.
+#[derive(Clone, Copy)]
+enum Act {
+    Write(&'static [u8]),
+    /// A folder is made.
+    Make,
+    Remove,
+    /// A symbolic link to this name is made.
+    Link(&'static str),
+    /// A file has these bytes.
+    Has(&'static [u8]),
+    /// There is something, or nothing.
+    Is(bool),
 }
 
-/// The path of a file in a folder.
-fn path_of(rt: &HostRuntime, folder: &str, name: &str) -> io::Result<String> {
-    Ok(format!(in rt.alloc(); "{folder}/{name}")?)
+/// A call of the files, with its answer.
+#[derive(Clone, Copy)]
+enum Call {
+    /// The folder is opened once more.
+    Open,
+    Put(u64, &'static [u8]),
+    /// The bytes at an offset, of which at most eight are asked for.
+    Read(u64, u64, &'static [u8]),
+    Size(u64, Option<u64>),
+    Remove(u64),
+    List(&'static [u64]),
+    Faults(u64),
+    /// A file is begun, and left.
+    Leave(u64),
+    /// A file of pieces is written: all of them, and then it is finished, or given up. Its old size is seen until then.
+    Pieces(u64, bool, u64),
+    /// Many files are put, each with its name, and each is read right after its put; or all are read again.
+    PutMany,
+    ReadMany,
 }
 
-/// Writes a file of a folder, bypassing the store.
-fn write(rt: &HostRuntime, folder: &str, name: &str, bytes: &[u8]) -> io::Result<()> {
-    let path = path_of(rt, folder, name)?;
-    fs::write(rt, path.as_str(), bytes)
+/// A call of the mark, with its answer.
+#[derive(Clone, Copy)]
+enum MarkCall {
+    /// The folder is opened once more.
+    Open,
+    Load(Stamp),
+    Store(Stamp),
+    Faults(u64),
 }
 
-/// Whether a folder has a file with this name.
-pub(super) fn is_there(rt: &HostRuntime, folder: &str, name: &str) -> io::Result<bool> {
-    let path = path_of(rt, folder, name)?;
-    fs::exists(rt, path.as_str())
-}
-
-/// Whether a file of a folder has these bytes.
-fn has_bytes(rt: &HostRuntime, folder: &str, name: &str, bytes: &[u8]) -> io::Result<bool> {
-    let path = path_of(rt, folder, name)?;
-    Ok(fs::read(rt, path.as_str())?.as_slice() == bytes)
-}
-
-/// Up to eight bytes of a file of the store at an offset.
-fn part(
-    rt: &HostRuntime,
-    files: &mut DirFiles<HostRuntime>,
-    name: u64,
-    offset: u64,
-) -> Result<Vec<u8>, FileFault> {
-    let mut bytes = vec![in rt.alloc(); 0u8; 8]?;
-    let len = files.read_at(name, offset, &mut bytes)?;
-    bytes.truncate(len);
-    Ok(bytes)
+/// A step, or a call that must fail.
+#[derive(Clone, Copy)]
+enum Step {
+    Beside(&'static str, Act),
+    Files(Call),
+    FilesFail(Call),
+    Mark(MarkCall),
+    MarkFails(MarkCall),
+    /// A sorted file of forty blocks is refused, since it would be too large.
+    TooLarge,
 }
 
 /// Files that don't belong to the store.
-const OTHERS: [&str; 5] = [
-    "t0000000000000003.new",
-    "t0000000000000004.tab.old",
-    "T0000000000000005.tab",
-    "t000000000000000A.tab",
-    "notes",
+const OTHERS: [Step; 5] = [
+    Step::Beside("t0000000000000003.new", Act::Write(b"other")),
+    Step::Beside("t0000000000000004.tab.old", Act::Write(b"other")),
+    Step::Beside("T0000000000000005.tab", Act::Write(b"other")),
+    Step::Beside("t000000000000000A.tab", Act::Write(b"other")),
+    Step::Beside("notes", Act::Write(b"other")),
 ];
 
-/// A new folder with files that don't belong to the store.
-fn folder_of_others(rt: &HostRuntime) -> io::Result<String> {
-    let folder = new_folder(rt, "files")?;
-    for name in OTHERS {
-        write(rt, folder.as_str(), name, b"other")?;
-    }
-    Ok(folder)
-}
-
-/// Whether a store has exactly these files.
-pub(super) fn has_files(
-    rt: &HostRuntime,
-    files: &mut DirFiles<HostRuntime>,
-    wanted: &[u64],
-) -> Result<bool, FileFault> {
-    let mut names = Vec::new(rt.alloc());
-    files.list(&mut names)?;
-    Ok(names.as_slice() == wanted)
-}
-
-/// Names of files, and their sizes.
-const SIZES: [(u64, Option<u64>); 3] = [(10, Some(10)), (2, Some(0)), (3, None)];
-
-/// Names of files, offsets, and the bytes there.
-const PARTS: [(u64, u64, &[u8]); 6] = [
-    (10, 0, b"ten byte"),
-    (10, 6, b"tes!"),
-    (10, 10, b""),
-    (10, u64::MAX, b""),
-    (2, 0, b""),
-    (3, 0, b""),
+/// They stay. Files exist after their put, one of them put twice, and are gone after they were removed twice.
+const KEPT: [Step; 22] = [
+    Step::Files(Call::List(&[])),
+    Step::Files(Call::Put(10, b"old bytes")),
+    Step::Files(Call::Put(10, b"ten bytes!")),
+    Step::Files(Call::Put(2, b"")),
+    Step::Files(Call::List(&[2, 10])),
+    Step::Files(Call::Size(10, Some(10))),
+    Step::Files(Call::Size(2, Some(0))),
+    Step::Files(Call::Size(3, None)),
+    Step::Files(Call::Read(10, 0, b"ten byte")),
+    Step::Files(Call::Read(10, 6, b"tes!")),
+    Step::Files(Call::Read(10, 10, b"")),
+    Step::Files(Call::Read(10, u64::MAX, b"")),
+    Step::Files(Call::Read(2, 0, b"")),
+    Step::Files(Call::Read(3, 0, b"")),
+    Step::Files(Call::Remove(10)),
+    Step::Files(Call::Remove(10)),
+    Step::Files(Call::List(&[2])),
+    Step::Files(Call::Size(10, None)),
+    Step::Files(Call::Faults(0)),
+    Step::Beside("t0000000000000002.tab", Act::Has(b"")),
+    Step::Beside("t0000000000000004.tab.old", Act::Has(b"other")),
+    Step::Beside("notes", Act::Has(b"other")),
 ];
 
-/// Whether the files have these sizes.
-fn are_sizes(files: &mut DirFiles<HostRuntime>) -> Result<bool, FileFault> {
-    for (name, size) in SIZES {
-        if files.size(name)? != size {
-            return Ok(false);
-        }
-    }
-    Ok(true)
-}
-
-/// Whether the files have these bytes there.
-fn are_parts(rt: &HostRuntime, files: &mut DirFiles<HostRuntime>) -> Result<bool, FileFault> {
-    for (name, offset, bytes) in PARTS {
-        if part(rt, files, name, offset)?.as_slice() != bytes {
-            return Ok(false);
-        }
-    }
-    Ok(true)
-}
-
-/// Whether files exist after their put, one of them put twice.
-fn are_put(rt: &HostRuntime, files: &mut DirFiles<HostRuntime>) -> Result<bool, FileFault> {
-    for (name, bytes) in [(10, "old bytes"), (10, "ten bytes!"), (2, "")] {
-        files.put(name, bytes.as_bytes())?;
-    }
-    Ok(has_files(rt, files, &[2, 10])? && are_sizes(files)? && are_parts(rt, files)?)
-}
-
-/// Whether a file is gone after it was removed twice.
-fn is_removed(rt: &HostRuntime, files: &mut DirFiles<HostRuntime>) -> Result<bool, FileFault> {
-    for name in [10, 10] {
-        files.remove(name)?;
-    }
-    Ok(has_files(rt, files, &[2])? && files.size(10)?.is_none())
-}
-
-/// Whether files can be put and removed without a fault, if there are none.
-fn are_kept(rt: &HostRuntime, files: &mut DirFiles<HostRuntime>) -> Result<bool, FileFault> {
-    let is_empty = has_files(rt, files, &[])?;
-    let are_put = are_put(rt, files)?;
-    Ok(is_empty && are_put && is_removed(rt, files)? && files.faults() == 0)
-}
-
-/// The same of the files of a folder.
-fn are_kept_in(rt: &HostRuntime, folder: &str) -> Result<bool, FileFault> {
-    let mut files = DirFiles::open(*rt, folder)?;
-    are_kept(rt, &mut files)
-}
-
-#[test]
-fn files_in_a_folder(rt: HostRuntime) -> Result<(), Fail> {
-    let folder = folder_of_others(&rt)?;
-    let path = folder.as_str();
-    assert!(rt; are_kept_in(&rt, path)?);
-    assert!(rt; is_there(&rt, path, "t0000000000000002.tab")?);
-    fs::remove_dir_all(&rt, path)?;
-    Ok(())
-}
-
-/// Bytes that are not a mark.
-const NO_MARKS: [&[u8]; 4] = [
-    b"",
-    b"\0\0\0\0\0\0\0",
-    b"\0\0\0\0\0\0\0\0\0",
-    b"\x80\0\0\0\0\0\0\0",
+/// The mark of a new folder is 0, and a stored one is written.
+const MARKED: [Step; 4] = [
+    Step::Mark(MarkCall::Load(0)),
+    Step::Mark(MarkCall::Store(1000)),
+    Step::Beside("oracle.mark", Act::Has(b"\0\0\0\0\0\0\x03\xE8")),
+    Step::Mark(MarkCall::Store(MOST_STAMP)),
 ];
 
-/// The mark's file.
-const MARK: &str = "oracle.mark";
+/// The greatest mark is loaded, and bytes that are not a mark are a fault.
+const MARKED_BADLY: [Step; 11] = [
+    Step::Mark(MarkCall::Load(MOST_STAMP)),
+    Step::Mark(MarkCall::Faults(0)),
+    Step::Beside("oracle.mark", Act::Write(b"")),
+    Step::MarkFails(MarkCall::Load(0)),
+    Step::Beside("oracle.mark", Act::Write(b"\0\0\0\0\0\0\0")),
+    Step::MarkFails(MarkCall::Load(0)),
+    Step::Beside("oracle.mark", Act::Write(b"\0\0\0\0\0\0\0\0\0")),
+    Step::MarkFails(MarkCall::Load(0)),
+    Step::Beside("oracle.mark", Act::Write(b"\x80\0\0\0\0\0\0\0")),
+    Step::MarkFails(MarkCall::Load(0)),
+    Step::Mark(MarkCall::Faults(4)),
+];
 
-/// Whether the mark of a new folder is 0, and a stored one is written. Then the greatest mark is stored.
-fn is_stored(rt: &HostRuntime, folder: &str) -> Result<bool, Fail> {
-    let mut mark = DirMark::open(*rt, folder)?;
-    let first = mark.load()?;
-    mark.store(1000)?;
-    let is_written = has_bytes(rt, folder, MARK, b"\0\0\0\0\0\0\x03\xE8")?;
-    mark.store(MOST_STAMP)?;
-    Ok(first == 0 && is_written)
-}
-
-/// Whether the greatest mark is loaded, and bytes that are not a mark are a fault.
-fn is_loaded(rt: &HostRuntime, folder: &str) -> Result<bool, Fail> {
-    let mut mark = DirMark::open(*rt, folder)?;
-    if mark.load()? != MOST_STAMP || mark.faults() != 0 {
-        return Ok(false);
-    }
-    for bytes in NO_MARKS {
-        write(rt, folder, MARK, bytes)?;
-        if mark.load().is_ok() {
-            return Ok(false);
-        }
-    }
-    Ok(mark.faults() == 4)
-}
-
-#[test]
-fn mark_in_a_folder(rt: HostRuntime) -> Result<(), Fail> {
-    let folder = new_folder(&rt, "mark")?;
-    let path = folder.as_str();
-    assert!(rt; is_stored(&rt, path)?);
-    assert!(rt; is_loaded(&rt, path)?);
-    fs::remove_dir_all(&rt, path)?;
-    Ok(())
-}
-
-/// Whether every call of these files fails.
-fn are_faults(rt: &HostRuntime, files: &mut DirFiles<HostRuntime>) -> bool {
-    files.put(1, b"x") == Err(FileFault::Device)
-        && has_files(rt, files, &[]) == Err(FileFault::Device)
-        && files.faults() == 2
-}
-
-/// Whether every call of a folder's files fails once the folder is removed.
-fn are_removed(rt: &HostRuntime, folder: &str) -> Result<bool, Fail> {
-    let mut files = DirFiles::open(*rt, folder)?;
-    fs::remove_dir_all(rt, folder)?;
-    Ok(are_faults(rt, &mut files))
-}
-
-/// Whether a store of the mark fails once its folder is removed.
-fn is_mark_removed(rt: &HostRuntime, folder: &str) -> Result<bool, Fail> {
-    let mut mark = DirMark::open(*rt, folder)?;
-    fs::remove_dir_all(rt, folder)?;
-    Ok(mark.store(5).is_err())
-}
-
-#[test]
-fn a_folder_is_removed(rt: HostRuntime) -> Result<(), Fail> {
-    let folder = new_folder(&rt, "removed")?;
-    let path = folder.as_str();
-    assert!(rt; are_removed(&rt, path)?);
-    assert!(rt; matches!(DirFiles::open(rt, path), Err(FileFault::Device)));
-    assert!(rt; DirMark::open(rt, path).is_err());
-    fs::create_dir(&rt, path)?;
-    assert!(rt; is_mark_removed(&rt, path)?);
-    Ok(())
-}
-
-/// The name of file 5.
-const FIVE: &str = "t0000000000000005.tab";
-
-/// Makes a folder with the name of file 5.
-fn take_five(rt: &HostRuntime, folder: &str) -> io::Result<()> {
-    fs::create_dir(rt, path_of(rt, folder, FIVE)?.as_str())
-}
-
-/// Removes it.
-fn leave_five(rt: &HostRuntime, folder: &str) -> io::Result<()> {
-    fs::remove_dir(rt, path_of(rt, folder, FIVE)?.as_str())
-}
-
-/// Whether the put of file 5 fails where a folder has its name, and leaves no temporary file.
-fn is_failed(
-    rt: &HostRuntime,
-    folder: &str,
-    files: &mut DirFiles<HostRuntime>,
-) -> io::Result<bool> {
-    take_five(rt, folder)?;
-    let called = files.put(5, b"five");
-    let is_beside = is_there(rt, folder, "t0000000000000005.new")?;
-    leave_five(rt, folder)?;
-    Ok(called == Err(FileFault::Device) && !is_beside && files.faults() == 1)
-}
-
-/// Whether file 5 can be put.
-fn is_put(files: &mut DirFiles<HostRuntime>) -> Result<bool, FileFault> {
-    files.put(5, b"five")?;
-    Ok(files.size(5)? == Some(4))
-}
-
-/// The same of `is_failed`, and whether file 5 can be put then, with no other fault.
-fn is_put_later(
-    rt: &HostRuntime,
-    folder: &str,
-    files: &mut DirFiles<HostRuntime>,
-) -> Result<bool, Fail> {
-    Ok(is_failed(rt, folder, files)? && is_put(files)? && files.faults() == 1)
-}
-
-/// Opens a folder's files, and answers `is_put_later`.
-fn is_failed_once(rt: &HostRuntime, folder: &str) -> Result<bool, Fail> {
-    let mut files = DirFiles::open(*rt, folder)?;
-    is_put_later(rt, folder, &mut files)
-}
+/// Every call fails once the folder is removed.
+const REMOVED: [Step; 8] = [
+    Step::Beside("", Act::Remove),
+    Step::FilesFail(Call::Put(1, b"x")),
+    Step::FilesFail(Call::List(&[])),
+    Step::Files(Call::Faults(2)),
+    Step::MarkFails(MarkCall::Store(5)),
+    Step::FilesFail(Call::Open),
+    Step::MarkFails(MarkCall::Open),
+    Step::Beside("", Act::Make),
+];
 
 /// A put that fails because a folder has the file's name leaves no temporary file, and succeeds later.
-#[test]
-fn a_failed_put_leaves_nothing(rt: HostRuntime) -> Result<(), Fail> {
-    let folder = new_folder(&rt, "taken")?;
-    let path = folder.as_str();
-    assert!(rt; is_failed_once(&rt, path)?);
-    fs::remove_dir_all(&rt, path)?;
-    Ok(())
-}
+const TAKEN: [Step; 8] = [
+    Step::Beside("t0000000000000005.tab", Act::Make),
+    Step::FilesFail(Call::Put(5, b"five")),
+    Step::Beside("t0000000000000005.new", Act::Is(false)),
+    Step::Beside("t0000000000000005.tab", Act::Remove),
+    Step::Files(Call::Faults(1)),
+    Step::Files(Call::Put(5, b"five")),
+    Step::Files(Call::Size(5, Some(4))),
+    Step::Files(Call::Faults(1)),
+];
 
-/// Writes a file of a folder, and makes file 5 a symbolic link to it.
-fn link_to_old(rt: &HostRuntime, folder: &str) -> io::Result<()> {
-    write(rt, folder, "old", b"old")?;
-    let old = path_of(rt, folder, "old")?;
-    let place = path_of(rt, folder, FIVE)?;
-    symlink(rt, old.as_str(), place.as_str())
-}
+/// A file is never overwritten in place: the target of a link with its name is unchanged.
+const LINKED: [Step; 5] = [
+    Step::Beside("old", Act::Write(b"old")),
+    Step::Beside("t0000000000000005.tab", Act::Link("old")),
+    Step::Files(Call::Put(5, b"five")),
+    Step::Beside("old", Act::Has(b"old")),
+    Step::Beside("t0000000000000005.tab", Act::Has(b"five")),
+];
 
-/// Opens a folder, and puts file 5.
-fn put_five(rt: &HostRuntime, folder: &str) -> Result<(), FileFault> {
-    DirFiles::open(*rt, folder)?.put(5, b"five")
-}
+/// A file that was read stays open. Once it is replaced or removed, its old bytes are never read; and if more files are
+/// read than the store keeps open, each is read right.
+const KEPT_OPEN: [Step; 11] = [
+    Step::Files(Call::Put(5, b"old")),
+    Step::Files(Call::Read(5, 0, b"old")),
+    Step::Files(Call::Read(5, 0, b"old")),
+    Step::Files(Call::Put(5, b"newer bytes")),
+    Step::Files(Call::Read(5, 0, b"newer by")),
+    Step::Files(Call::Read(5, 0, b"newer by")),
+    Step::Files(Call::Remove(5)),
+    Step::Files(Call::Read(5, 0, b"")),
+    Step::Files(Call::PutMany),
+    Step::Files(Call::ReadMany),
+    Step::Files(Call::Faults(0)),
+];
 
-/// Whether file 5 is put, and the target of a link with its name is unchanged.
-fn is_replaced(rt: &HostRuntime, folder: &str) -> Result<bool, Fail> {
-    link_to_old(rt, folder)?;
-    put_five(rt, folder)?;
-    Ok(has_bytes(rt, folder, "old", b"old")? && has_bytes(rt, folder, FIVE, b"five")?)
-}
+/// A file has its old bytes until one that is written in pieces is finished, and after one was given up.
+const IN_PIECES: [Step; 11] = [
+    Step::Files(Call::Put(7, b"old")),
+    Step::Files(Call::Pieces(7, false, 3)),
+    Step::Files(Call::Read(7, 0, b"old")),
+    Step::Files(Call::Pieces(7, true, 3)),
+    Step::Files(Call::Size(7, Some(4_587_520))),
+    Step::Files(Call::Read(7, 0, b"\0\0\0\0\0\0\0\0")),
+    Step::Files(Call::Read(7, 65_532, b"\0\0\0\0\x01\x01\x01\x01")),
+    Step::Files(Call::Read(7, 4_587_512, b"EEEEEEEE")),
+    Step::Files(Call::List(&[7])),
+    Step::Files(Call::Faults(0)),
+    Step::Beside("t0000000000000007.new", Act::Is(false)),
+];
 
-/// A file is never overwritten in place.
-#[test]
-fn files_are_put_in_place_whole(rt: HostRuntime) -> Result<(), Fail> {
-    let folder = new_folder(&rt, "links")?;
-    let path = folder.as_str();
-    assert!(rt; is_replaced(&rt, path)?);
-    fs::remove_dir_all(&rt, path)?;
-    Ok(())
-}
+/// A file that was neither finished nor given up is there until the folder is opened again.
+const LEFT: [Step; 2] = [
+    Step::Files(Call::Leave(7)),
+    Step::Beside("t0000000000000007.new", Act::Is(true)),
+];
+
+const LEFT_BEFORE: [Step; 2] = [
+    Step::Files(Call::List(&[])),
+    Step::Beside("t0000000000000007.new", Act::Is(false)),
+];
+
+/// Nothing is left of a file that is refused when pieces of it are written.
+const REFUSED: [Step; 4] = [
+    Step::TooLarge,
+    Step::Beside("t0000000000000001.new", Act::Is(false)),
+    Step::Files(Call::List(&[])),
+    Step::Files(Call::Faults(0)),
+];
+
+/// The names of folders, and the steps in them after each time that they are opened.
+const FOLDERS: [(&str, &[&[Step]]); 9] = [
+    ("files", &[&OTHERS, &KEPT]),
+    ("mark", &[&MARKED, &MARKED_BADLY]),
+    ("removed", &[&REMOVED]),
+    ("taken", &[&TAKEN]),
+    ("links", &[&LINKED]),
+    ("open", &[&KEPT_OPEN]),
+    ("pieces", &[&IN_PIECES]),
+    ("left", &[&LEFT, &LEFT_BEFORE]),
+    ("refused", &[&REFUSED]),
+];
 
 /// How many files are read: more than the store keeps open.
 const MANY: u64 = 200;
 
-/// Whether a file begins with these bytes, at most eight.
-fn begins_with(
-    rt: &HostRuntime,
+/// The length of a piece, and the number of pieces: more bytes than a folder's file has when it is first forced to the
+/// disk.
+const PIECE: usize = 65_536;
+
+const PIECES: u8 = 70;
+
+/// Whether the bytes of a file at an offset, of which at most eight are asked for, are these.
+fn reads(
     files: &mut DirFiles<HostRuntime>,
     name: u64,
-    bytes: &[u8],
+    offset: u64,
+    wanted: &[u8],
 ) -> Result<bool, FileFault> {
-    Ok(part(rt, files, name, 0)?.as_slice() == bytes)
+    let mut bytes = [0u8; 8];
+    let count = files.read_at(name, offset, &mut bytes)?;
+    Ok(bytes.get(..count) == Some(wanted))
 }
 
-/// Whether reads of a file give its current bytes after it is put, put again and removed.
-fn is_as_put(rt: &HostRuntime, files: &mut DirFiles<HostRuntime>) -> Result<bool, FileFault> {
-    for (bytes, read) in [("old", b"old".as_slice()), ("newer bytes", b"newer by")] {
-        files.put(5, bytes.as_bytes())?;
-        if !begins_with(rt, files, 5, read)? || !begins_with(rt, files, 5, read)? {
-            return Ok(false);
-        }
-    }
-    files.remove(5)?;
-    begins_with(rt, files, 5, b"")
-}
-
-/// Whether each of many files, which contains its name, is read right after its put.
-fn are_many_put(rt: &HostRuntime, files: &mut DirFiles<HostRuntime>) -> Result<bool, FileFault> {
+/// Whether each of many files, which contains its name, is read right, after its put or without it.
+fn are_read(files: &mut DirFiles<HostRuntime>, puts: bool) -> Result<bool, FileFault> {
     for name in 1..MANY {
-        files.put(name, &name.to_be_bytes())?;
-        if !begins_with(rt, files, name, &name.to_be_bytes())? {
+        if puts {
+            files.put(name, &name.to_be_bytes())?;
+        }
+        if !reads(files, name, 0, &name.to_be_bytes())? {
             return Ok(false);
         }
     }
     Ok(true)
 }
 
-/// Whether each of them is still read right.
-fn are_many_read(rt: &HostRuntime, files: &mut DirFiles<HostRuntime>) -> Result<bool, FileFault> {
-    for name in 1..MANY {
-        if !begins_with(rt, files, name, &name.to_be_bytes())? {
-            return Ok(false);
+/// A memtable of `a` at the stamps 1 to 40, with values of 4,000 bytes.
+fn forty(alloc: Global) -> Result<Memtable, Refusal> {
+    let value = vec![in alloc; b'v'; 4000]?;
+    let mut table = Memtable::new(alloc);
+    for stamp in 1..=40 {
+        write(alloc, &mut table, b"a", stamp, Some(&value), None)?;
+    }
+    Ok(table)
+}
+
+/// A folder of the store.
+#[derive(Drop)]
+struct Folder {
+    rt: HostRuntime,
+    path: String,
+    files: DirFiles<HostRuntime>,
+    mark: DirMark<HostRuntime>,
+}
+
+impl Folder {
+    /// Opens a folder.
+    fn open(rt: HostRuntime, path: &str) -> Result<Folder, Fail> {
+        Ok(Folder {
+            rt,
+            path: path.to_string(rt.alloc())?,
+            files: DirFiles::open(rt, path)?,
+            mark: DirMark::open(rt, path)?,
+        })
+    }
+
+    /// What another program does.
+    fn beside(&self, name: &str, act: Act) -> io::Result<bool> {
+        let rt = &self.rt;
+        let path = format!(in rt.alloc(); "{}/{name}", self.path)?;
+        let path = path.as_str();
+        match act {
+            Act::Write(bytes) => fs::write(rt, path, bytes)?,
+            Act::Make => fs::create_dir(rt, path)?,
+            Act::Remove => fs::remove_dir_all(rt, path)?,
+            Act::Link(target) => symlink(rt, target, path)?,
+            Act::Has(bytes) => return Ok(fs::read(rt, path)?.as_slice() == bytes),
+            Act::Is(wanted) => return Ok(fs::exists(rt, path)? == wanted),
+        }
+        Ok(true)
+    }
+
+    /// Whether the store has exactly these files.
+    fn lists(&mut self, wanted: &[u64]) -> Result<bool, FileFault> {
+        let mut names = Vec::new(self.rt.alloc());
+        self.files.list(&mut names)?;
+        Ok(names.as_slice() == wanted)
+    }
+
+    /// Begins a file, and leaves it.
+    fn leave(&mut self, name: u64) -> Result<(), FileFault> {
+        let mut writing = self.files.begin(name)?;
+        self.files.push(&mut writing, b"seven")
+    }
+
+    /// Writes a file in pieces, each of which has its number as each byte, and finishes it or gives it up; answers
+    /// whether it had this size until then.
+    fn write_pieces(&mut self, name: u64, finishes: bool, size: u64) -> Result<bool, FileFault> {
+        let mut piece = vec![in self.rt.alloc(); 0u8; PIECE]?;
+        let mut writing = self.files.begin(name)?;
+        for number in 0..PIECES {
+            piece.fill(number);
+            self.files.push(&mut writing, &piece)?;
+        }
+        let is_old = self.files.size(name)? == Some(size);
+        if finishes {
+            self.files.finish(writing)?;
+        } else {
+            self.files.give_up(writing);
+        }
+        Ok(is_old)
+    }
+
+    /// Whether a call of the files is answered so.
+    fn call(&mut self, call: Call) -> Result<bool, FileFault> {
+        match call {
+            Call::Open => {
+                DirFiles::open(self.rt, self.path.as_str())?;
+            }
+            Call::Put(name, bytes) => self.files.put(name, bytes)?,
+            Call::Read(name, offset, wanted) => {
+                return reads(&mut self.files, name, offset, wanted);
+            }
+            Call::Size(name, size) => return Ok(self.files.size(name)? == size),
+            Call::Remove(name) => self.files.remove(name)?,
+            Call::List(wanted) => return self.lists(wanted),
+            Call::Faults(count) => return Ok(self.files.faults() == count),
+            Call::Leave(name) => self.leave(name)?,
+            Call::Pieces(name, finishes, size) => return self.write_pieces(name, finishes, size),
+            Call::PutMany => return are_read(&mut self.files, true),
+            Call::ReadMany => return are_read(&mut self.files, false),
+        }
+        Ok(true)
+    }
+
+    /// Whether a call of the mark is answered so.
+    fn mark(&mut self, call: MarkCall) -> Result<bool, MarkFault> {
+        match call {
+            MarkCall::Open => {
+                DirMark::open(self.rt, self.path.as_str())?;
+            }
+            MarkCall::Load(stamp) => return Ok(self.mark.load()? == stamp),
+            MarkCall::Store(stamp) if stamp <= MOST_STAMP => self.mark.store(stamp)?,
+            MarkCall::Store(_) => return Ok(false),
+            MarkCall::Faults(count) => return Ok(self.mark.faults() == count),
+        }
+        Ok(true)
+    }
+
+    /// Whether a file of forty blocks is refused within a limit of 100,000 bytes.
+    fn is_too_large(&mut self) -> Result<bool, Refusal> {
+        let alloc = self.rt.alloc();
+        let table = forty(alloc)?;
+        let written = merge_within(alloc, &table, None, true, 1, 100_000, &mut self.files);
+        Ok(written == Err(Refusal::FileTooLarge))
+    }
+
+    /// Whether a step goes as it should.
+    fn goes(&mut self, step: Step) -> Result<bool, Fail> {
+        match step {
+            Step::Beside(name, act) => Ok(self.beside(name, act)?),
+            Step::Files(call) => Ok(self.call(call) == Ok(true)),
+            Step::FilesFail(call) => Ok(self.call(call) == Err(FileFault::Device)),
+            Step::Mark(call) => Ok(matches!(self.mark(call), Ok(true))),
+            Step::MarkFails(call) => Ok(self.mark(call).is_err()),
+            Step::TooLarge => Ok(self.is_too_large()?),
         }
     }
-    Ok(true)
 }
 
-/// Whether one file and then many are read right, without a fault.
-fn are_read(rt: &HostRuntime, files: &mut DirFiles<HostRuntime>) -> Result<bool, FileFault> {
-    let is_one = is_as_put(rt, files)?;
-    let are_put = are_many_put(rt, files)?;
-    Ok(is_one && are_put && are_many_read(rt, files)? && files.faults() == 0)
+/// A new folder with this name in the machine's temporary folder.
+fn new_folder(rt: &HostRuntime, name: &str) -> io::Result<String> {
+    testing::folders::new_folder(rt, process::id(rt.process()), name)
 }
 
-/// The same of the files of a folder.
-fn are_read_of(rt: &HostRuntime, folder: &str) -> Result<bool, FileFault> {
-    let mut files = DirFiles::open(*rt, folder)?;
-    are_read(rt, &mut files)
+/// Opens a folder; answers the first step that doesn't go as it should.
+fn first_wrong(rt: HostRuntime, path: &str, steps: &[Step]) -> Result<Option<usize>, Fail> {
+    let mut folder = Folder::open(rt, path)?;
+    for (at, step) in steps.iter().enumerate() {
+        if !folder.goes(*step)? {
+            return Ok(Some(at));
+        }
+    }
+    Ok(None)
 }
 
-/// A file that was read stays open. Once it is replaced or removed, its old bytes are never read; and if more files are
-/// read than the store keeps open, each is read right.
 #[test]
-fn open_files_are_read_as_they_are(rt: HostRuntime) -> Result<(), Fail> {
-    let folder = new_folder(&rt, "open")?;
-    let path = folder.as_str();
-    assert!(rt; are_read_of(&rt, path)?);
-    fs::remove_dir_all(&rt, path)?;
+fn folders(rt: HostRuntime) -> Result<(), Fail> {
+    for (name, parts) in FOLDERS {
+        let path = new_folder(&rt, name)?;
+        for steps in parts {
+            let wrong = first_wrong(rt, path.as_str(), *steps)?;
+            assert!(rt; wrong.is_none(), "{name} {wrong:?}");
+        }
+        fs::remove_dir_all(&rt, path.as_str())?;
+    }
+    Ok(())
+}
+
+/// The end of a file fails once the folder is removed, and so does the begin of another.
+#[test]
+fn a_folder_is_removed_under_a_file(rt: HostRuntime) -> Result<(), Fail> {
+    let path = new_folder(&rt, "under")?;
+    let mut folder = Folder::open(rt, path.as_str())?;
+    let writing = folder.files.begin(7)?;
+    fs::remove_dir_all(&rt, path.as_str())?;
+    let finished = folder.files.finish(writing);
+    let is_begun = folder.files.begin(8).is_ok();
+    assert!(rt; finished == Err(FileFault::Device) && !is_begun && folder.files.faults() == 2);
     Ok(())
 }

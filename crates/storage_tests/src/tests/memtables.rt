@@ -1,17 +1,16 @@
 //! A full memtable.
 
+use crate::tests::memory::files::write;
 use cell_key::{Refusal, Row, Stamp};
 use memtable::Memtable;
 use std::alloc::Global;
 use std::test::Fail;
-use testing::edits::{data_key, edits_of};
+use testing::edits::data_key;
 
 /// Puts this many zeros at a stamp of `a`.
 fn put(alloc: Global, table: &mut Memtable, stamp: Stamp, len: usize) -> Result<(), Refusal> {
     let value = vec![in alloc; 0; len]?;
-    let row = Row::new(alloc, b"a")?;
-    let edits = edits_of(alloc, &row, stamp, Some(&value), None)?;
-    table.apply(&row, edits)
+    write(alloc, table, b"a", stamp, Some(&value), None)
 }
 
 /// Whether a memtable has a value at a stamp of `a`.

@@ -23,14 +23,19 @@ struct Subject {
 }
 
 impl Subject {
-    /// The tablet without files.
-    fn new(alloc: Global) -> Subject {
-        Subject {
+    /// The tablet with this many files. In its box it is dropped by one call.
+    fn new(alloc: Global, count: Stamp) -> Result<Box<Subject>, Refusal> {
+        let subject = Subject {
             alloc,
             tablet: Tablet::new(alloc),
             next_name: 1,
             files: MemFiles::new(alloc),
+        };
+        let mut subject = Box::new(alloc, subject)?;
+        for stamp in 1..=count {
+            subject.put(stamp)?;
         }
+        Ok(subject)
     }
 
     /// Puts a value at a stamp, which gets a file of its own.
@@ -78,43 +83,58 @@ fn three_steps<F: Files>(
     Ok(first && second && !third)
 }
 
-/// Whether the newest two of three files become one in steps. A fourth file comes before the steps, and a fifth before
-/// the end: they stay before the new one.
-fn stays_behind_flushes(alloc: Global) -> Result<bool, Refusal> {
-    let mut subject = Subject::new(alloc);
-    subject.put(1)?;
-    subject.put(2)?;
-    subject.put(3)?;
-    let mut merge = subject
-        .tablet
-        .begin_merge(2, FILE_LIMIT, &mut subject.next_name, &mut subject.files)?;
-    subject.put(5)?;
-    let is_stepped = three_steps(&subject.tablet, &mut merge, &mut subject.files)?;
-    subject.put(6)?;
-    let is_before = subject.has_files(&[6, 5, 3, 2, 1])?;
-    subject.tablet.end_merge(merge, &mut subject.files)?;
-    Ok(is_stepped && is_before && subject.has_files(&[6, 5, 4, 1])? && subject.has(2)?)
+impl Subject {
+    /// Merges the newest two of three files in steps. A fourth file comes before the steps, and a fifth before the end;
+    /// answers whether it went so.
+    fn merge_between_flushes(&mut self) -> Result<bool, Refusal> {
+        let name = &mut self.next_name;
+        let mut merge = self
+            .tablet
+            .begin_merge(2, FILE_LIMIT, name, &mut self.files)?;
+        self.put(5)?;
+        let is_stepped = three_steps(&self.tablet, &mut merge, &mut self.files)?;
+        self.put(6)?;
+        let is_before = self.has_files(&[6, 5, 3, 2, 1])?;
+        self.tablet.end_merge(merge, &mut self.files)?;
+        Ok(is_stepped && is_before)
+    }
+
+    /// Merges all files into one.
+    fn major(&mut self) -> Result<(), Refusal> {
+        self.tablet
+            .major(FILE_LIMIT, &mut self.next_name, &mut self.files)
+    }
+
+    /// Begins a merge of two files, merges all of them meanwhile, and ends it.
+    fn merge_over_major(&mut self) -> Result<(), Refusal> {
+        let name = &mut self.next_name;
+        let merge = self
+            .tablet
+            .begin_merge(2, FILE_LIMIT, name, &mut self.files)?;
+        self.major()?;
+        self.tablet.end_merge(merge, &mut self.files)
+    }
+
+    /// Whether there is no file 3.
+    fn is_unwritten(&mut self) -> Result<bool, Refusal> {
+        Ok(refused(self.files.size(3))?.is_none())
+    }
 }
 
-/// Whether the end of a merge is refused if its files were merged meanwhile, and the tablet is as it was.
-fn is_refused(alloc: Global) -> Result<bool, Refusal> {
-    let mut subject = Subject::new(alloc);
-    subject.put(1)?;
-    subject.put(2)?;
-    let merge = subject
-        .tablet
-        .begin_merge(2, FILE_LIMIT, &mut subject.next_name, &mut subject.files)?;
-    subject
-        .tablet
-        .major(FILE_LIMIT, &mut subject.next_name, &mut subject.files)?;
-    let ended = subject.tablet.end_merge(merge, &mut subject.files);
-    let is_unwritten = refused(subject.files.size(3))? == None;
-    Ok(ended == Err(Refusal::BadCount) && is_unwritten && subject.has_files(&[4])?)
-}
-
+/// The files that came meanwhile stay before the new one.
 #[test]
-fn merges_in_steps(rt: HostRuntime) -> Result<(), Fail> {
-    assert!(rt; stays_behind_flushes(rt.alloc())?);
-    assert!(rt; is_refused(rt.alloc())?);
+fn a_merge_stays_behind_flushes(rt: HostRuntime) -> Result<(), Fail> {
+    let mut subject = Subject::new(rt.alloc(), 3)?;
+    assert!(rt; subject.merge_between_flushes()?);
+    assert!(rt; subject.has_files(&[6, 5, 4, 1])? && subject.has(2)?);
+    Ok(())
+}
+
+/// The end of a merge is refused if its files were merged meanwhile, and the tablet is as it was.
+#[test]
+fn a_merge_of_files_that_are_gone(rt: HostRuntime) -> Result<(), Fail> {
+    let mut subject = Subject::new(rt.alloc(), 2)?;
+    assert!(rt; subject.merge_over_major() == Err(Refusal::BadCount));
+    assert!(rt; subject.is_unwritten()? && subject.has_files(&[4])?);
     Ok(())
 }

@@ -1,8 +1,7 @@
 //! Sorted files, by their bytes.
 
 use crate::tests::files::Recorder;
-use crate::tests::memory::files::{key_of_a, merge, refused, write_again};
-use crate::tests::slow::found_at;
+use crate::tests::memory::files::{merge, refused, write, write_again};
 use cell_key::{CellKey, Family, Qualifier, Refusal, Row, Stamp};
 use file_store::{Files, MemFiles, read_whole};
 use memtable::Memtable;
@@ -10,7 +9,6 @@ use sorted_file::{KeyFilter, LockIndex, LookupKey, SortedFile, few_blocks};
 use std::alloc::{AllocError, Global};
 use std::num::NonZeroUsize;
 use std::test::Fail;
-use testing::edits::edits_of;
 
 /// A file of no entries.
 pub const EMPTY: &[u8] = b"TABLET01\0\0\0\x08\0\0\0\0\0\0\0\0\0\0\0\x20TABLETZZ";
@@ -231,153 +229,129 @@ fn damaged_files(rt: HostRuntime) -> Result<(), Fail> {
     Ok(())
 }
 
-impl Recorded {
-    /// The length of the value of `a` at a stamp.
-    fn value_len(&mut self, alloc: Global, stamp: Stamp) -> Result<Option<usize>, Refusal> {
-        let key = LookupKey::new(alloc, key_of_a(alloc, stamp)?)?;
-        match self.file.newest(&key, stamp, &mut self.files)? {
-            Some((_, Some(value))) => Ok(Some(value.len())),
-            _ => Ok(None),
-        }
-    }
+/// The read of a file: its name, the offset, and the number of bytes.
+type Read = (u64, u64, usize);
+
+/// A step in an open file.
+#[derive(Clone, Copy)]
+enum Step {
+    /// The cache is emptied, or gets this number of blocks.
+    Forget,
+    Resize(usize),
+    /// The file is written anew: the file of three entries, with this byte at an offset.
+    Change(usize, u8),
+    /// The data of `a` at a stamp: the reads, and the length of its value.
+    Data(Stamp, &'static [Read], Option<usize>),
+    /// It is refused as damaged.
+    Damaged(Stamp),
+    /// The newest lock of a row up to 9: the reads, and its stamp.
+    Lock(&'static [u8], &'static [Read], Option<Stamp>),
+    /// The data of `a` at several stamps has 4,000 bytes each, and each of them is read, or none is.
+    Each(&'static [Stamp], bool),
 }
 
-/// Lookups in the file of three entries, in order: whether the cache is emptied first, the stamp, the reads of file 1
-/// (offset and number of bytes), and the length of the value.
-const LOOK_UPS: [(bool, Stamp, &[(u64, u64, usize)], Option<usize>); 7] = [
-    (true, 3, &[(1, 8, 4096)], Some(2017)),
-    (true, 2, &[(1, 8, 4096)], Some(2017)),
-    (true, 1, &[(1, 4104, 2048)], Some(2017)),
-    (true, 4, &[], None),
-    (false, 3, &[(1, 8, 4096)], Some(2017)),
-    (false, 3, &[], Some(2017)),
-    (false, 2, &[], Some(2017)),
+/// A look-up reads one block, or none if that block was read before.
+const ONE_BLOCK: [Step; 11] = [
+    Step::Forget,
+    Step::Data(3, &[(1, 8, 4096)], Some(2017)),
+    Step::Forget,
+    Step::Data(2, &[(1, 8, 4096)], Some(2017)),
+    Step::Forget,
+    Step::Data(1, &[(1, 4104, 2048)], Some(2017)),
+    Step::Data(4, &[], None),
+    Step::Forget,
+    Step::Data(3, &[(1, 8, 4096)], Some(2017)),
+    Step::Data(3, &[], Some(2017)),
+    Step::Data(2, &[], Some(2017)),
 ];
 
-/// Whether a lookup at a stamp makes these reads, and finds a value of this length.
-fn is_found(
-    alloc: Global,
-    recorded: &mut Recorded,
-    stamp: Stamp,
-    reads: &[(u64, u64, usize)],
-    len: Option<usize>,
-) -> Result<bool, Refusal> {
-    recorded.files.reads.clear();
-    let found = recorded.value_len(alloc, stamp)?;
-    Ok(found == len && recorded.files.reads.as_slice() == reads)
+/// The eight blocks used last are cached.
+const EIGHT: [Step; 4] = [
+    Step::Each(&[1, 2, 3, 4, 5, 6, 7, 8], true),
+    Step::Each(&[1, 2, 3, 4, 5, 6, 7, 8], false),
+    Step::Each(&[9, 1, 2], true),
+    Step::Each(&[4, 5, 6, 7, 8, 9, 1, 2], false),
+];
+
+/// As many are cached as the cache has room for.
+const RESIZED: [Step; 8] = [
+    Step::Each(&[1, 2, 4, 5, 6, 7, 8, 9], true),
+    Step::Resize(9),
+    Step::Each(&[3], true),
+    Step::Each(&[1, 2, 3, 4, 5, 6, 7, 8, 9], false),
+    Step::Resize(1),
+    Step::Each(&[9], false),
+    Step::Resize(1),
+    Step::Each(&[8, 7], true),
+];
+
+/// Locks. A row that has only an erasure of a lock here is read too; in a tablet the index of the files' locks prevents
+/// that.
+const LOCKED: [Step; 8] = [
+    Step::Forget,
+    Step::Lock(b"a", &[(1, 8, 93)], Some(1)),
+    Step::Forget,
+    Step::Lock(b"b", &[(1, 8, 93)], None),
+    Step::Forget,
+    Step::Lock(b"bb", &[], None),
+    Step::Forget,
+    Step::Lock(b"c", &[(1, 8, 93)], Some(1)),
+];
+
+/// A cached block is still used when its bytes have changed, in the length of the second key or in the row of the first
+/// one, and is refused once it is read again.
+const GARBLED: [Step; 11] = [
+    Step::Data(3, &[(1, 8, 4096)], Some(2017)),
+    Step::Change(2059, 0x17),
+    Step::Data(3, &[], Some(2017)),
+    Step::Forget,
+    Step::Damaged(3),
+    Step::Change(2059, 0x16),
+    Step::Data(3, &[(1, 8, 4096)], Some(2017)),
+    Step::Change(12, b'`'),
+    Step::Data(3, &[], Some(2017)),
+    Step::Forget,
+    Step::Damaged(3),
+];
+
+/// A block whose bytes have changed is refused, however often it is read.
+const GARBLED_BEFORE: [Step; 6] = [
+    Step::Change(2059, 0x17),
+    Step::Damaged(3),
+    Step::Damaged(3),
+    Step::Change(12, b'`'),
+    Step::Damaged(3),
+    Step::Damaged(3),
+];
+
+/// A file of known bytes.
+#[derive(Clone, Copy)]
+enum Known {
+    Three,
+    Nine,
+    Locks,
 }
 
-#[test]
-fn look_ups_read_one_block(rt: HostRuntime) -> Result<(), Fail> {
-    let mut recorded = recorded_file(rt.alloc(), &three(rt.alloc())?)?;
-    for (forgets, stamp, reads, len) in LOOK_UPS {
-        if forgets {
-            recorded.file.drop_cache();
-        }
-        assert!(rt; is_found(rt.alloc(), &mut recorded, stamp, reads, len)?);
-    }
-    Ok(())
-}
-
-/// Writes a value into the row `a` at a stamp, or an erasure.
-fn write(
-    alloc: Global,
-    table: &mut Memtable,
-    stamp: Stamp,
-    value: Option<&[u8]>,
-) -> Result<(), Refusal> {
-    let row = Row::new(alloc, b"a")?;
-    let edits = edits_of(alloc, &row, stamp, value, None)?;
-    table.apply(&row, edits)
-}
-
-/// The file written from a memtable.
-fn file_of(alloc: Global, table: &Memtable) -> Result<Vec<u8>, Refusal> {
-    let mut files = MemFiles::new(alloc);
-    merge(alloc, table, None, true, 1, &mut files)?;
-    refused(read_whole(alloc, &mut files, 1))?.ok_or(Refusal::Device)
-}
+/// The files, and the steps in each.
+const OPENED: [(Known, &[Step]); 6] = [
+    (Known::Three, &ONE_BLOCK),
+    (Known::Nine, &EIGHT),
+    (Known::Nine, &RESIZED),
+    (Known::Locks, &LOCKED),
+    (Known::Three, &GARBLED),
+    (Known::Three, &GARBLED_BEFORE),
+];
 
 /// A file of `a` at the stamps 1 to 9, with values of 4,000 bytes: a block each.
 fn nine(alloc: Global) -> Result<Vec<u8>, Refusal> {
     let value = vec![in alloc; b'v'; 4000]?;
     let mut table = Memtable::new(alloc);
     for stamp in 1..10 {
-        write(alloc, &mut table, stamp, Some(&value))?;
+        write(alloc, &mut table, b"a", stamp, Some(&value), None)?;
     }
-    file_of(alloc, &table)
-}
-
-/// Stamps that are looked up in order in the file of nine blocks, and whether each lookup reads the file. The eight
-/// blocks used last are cached.
-const NINE_LOOK_UPS: [(&[Stamp], bool); 4] = [
-    (&[1, 2, 3, 4, 5, 6, 7, 8], true),
-    (&[1, 2, 3, 4, 5, 6, 7, 8], false),
-    (&[9, 1, 2], true),
-    (&[4, 5, 6, 7, 8, 9, 1, 2], false),
-];
-
-/// Whether the lookups at these stamps find values of 4,000 bytes, and all of them read the file, or none does.
-fn are_read(
-    alloc: Global,
-    recorded: &mut Recorded,
-    stamps: &[Stamp],
-    is_read: bool,
-) -> Result<bool, Refusal> {
-    for stamp in stamps {
-        recorded.files.reads.clear();
-        let len = recorded.value_len(alloc, *stamp)?;
-        if len != Some(4000) || recorded.files.reads.is_empty() == is_read {
-            return Ok(false);
-        }
-    }
-    Ok(true)
-}
-
-#[test]
-fn eight_blocks_are_kept(rt: HostRuntime) -> Result<(), Fail> {
-    let mut recorded = recorded_file(rt.alloc(), &nine(rt.alloc())?)?;
-    for (stamps, is_read) in NINE_LOOK_UPS {
-        assert!(rt; are_read(rt.alloc(), &mut recorded, stamps, is_read)?);
-    }
-    Ok(())
-}
-
-/// The new size of the cache of the file of nine blocks, the stamps looked up then, and whether each lookup reads the
-/// file.
-const RESIZED: [(usize, &[Stamp], bool); 4] = [
-    (9, &[3], true),
-    (9, &[1, 2, 3, 4, 5, 6, 7, 8, 9], false),
-    (1, &[9], false),
-    (1, &[8, 7], true),
-];
-
-/// The stamps looked up before.
-const BEFORE_RESIZED: [Stamp; 8] = [1, 2, 4, 5, 6, 7, 8, 9];
-
-/// The same as `are_read`, after the cache was resized to this number of blocks.
-fn are_read_of(
-    alloc: Global,
-    recorded: &mut Recorded,
-    most: usize,
-    stamps: &[Stamp],
-    is_read: bool,
-) -> Result<bool, Refusal> {
-    let Some(most) = NonZeroUsize::new(most) else {
-        return Ok(false);
-    };
-    recorded.file.resize_cache(most);
-    are_read(alloc, recorded, stamps, is_read)
-}
-
-#[test]
-fn as_many_blocks_are_kept(rt: HostRuntime) -> Result<(), Fail> {
-    let mut recorded = recorded_file(rt.alloc(), &nine(rt.alloc())?)?;
-    assert!(rt; are_read(rt.alloc(), &mut recorded, &BEFORE_RESIZED, true)?);
-    for (most, stamps, is_read) in RESIZED {
-        assert!(rt; are_read_of(rt.alloc(), &mut recorded, most, stamps, is_read)?);
-    }
-    Ok(())
+    let mut files = MemFiles::new(alloc);
+    merge(alloc, &table, None, true, 1, &mut files)?;
+    refused(read_whole(alloc, &mut files, 1))?.ok_or(Refusal::Device)
 }
 
 /// A file of locks of `a` and `c`, and of an erasure of the lock of `b`, at the stamp 1.
@@ -388,24 +362,122 @@ const LOCKS: &[u8] = b"TABLET01\
     \0\0\0\x08\0\0\0\x5D\0\0\0\x16a\0\0bal\0\0lock\0\0\xFF\xFF\xFF\xFF\xFF\xFF\xFF\xFE\
     \0\0\0\x65\0\0\0\x01\0\0\0\x03\0\0\0\x9FTABLETZZ";
 
-/// A row, the stamp of its newest lock up to 9, and the reads for it. A row that has only an erasure of a lock here is
-/// read too; in a tablet the index of the files' locks prevents that.
-const LOCK_TESTS: [(&[u8], Option<Stamp>, &[(u64, u64, usize)]); 4] = [
-    (b"a", Some(1), &[(1, 8, 93)]),
-    (b"b", None, &[(1, 8, 93)]),
-    (b"bb", None, &[]),
-    (b"c", Some(1), &[(1, 8, 93)]),
-];
+/// The bytes of a file.
+fn bytes_of(alloc: Global, known: Known) -> Result<Vec<u8>, Refusal> {
+    match known {
+        Known::Three => Ok(three(alloc)?),
+        Known::Nine => nine(alloc),
+        Known::Locks => Ok(Vec::from_slice(alloc, LOCKS)?),
+    }
+}
 
-/// The key of a row's lock at the stamp 9.
-fn lock_key(alloc: Global, row: &[u8]) -> Result<LookupKey, Refusal> {
+/// The key of a row's cell of the family `bal` at a stamp.
+fn key_of(
+    alloc: Global,
+    row: &[u8],
+    qualifier: Qualifier,
+    stamp: Stamp,
+) -> Result<LookupKey, Refusal> {
     let key = CellKey {
         row: Row::new(alloc, row)?,
         family: Family::new(alloc, b"bal")?,
-        qualifier: Qualifier::Lock,
-        stamp: 9,
+        qualifier,
+        stamp,
     };
     Ok(LookupKey::new(alloc, key)?)
+}
+
+impl Recorded {
+    /// The stamp of the newest value of a row's cell at stamps from the first to the second, and its length.
+    fn newest(
+        &mut self,
+        alloc: Global,
+        row: &[u8],
+        qualifier: Qualifier,
+        stamps: (Stamp, Stamp),
+    ) -> Result<Option<(Stamp, usize)>, Refusal> {
+        self.files.reads.clear();
+        let key = key_of(alloc, row, qualifier, stamps.1)?;
+        match self.file.newest(&key, stamps.0, &mut self.files)? {
+            Some((stamp, Some(value))) => Ok(Some((stamp, value.len()))),
+            _ => Ok(None),
+        }
+    }
+
+    /// The length of the value of `a` at a stamp.
+    fn value_len(&mut self, alloc: Global, stamp: Stamp) -> Result<Option<usize>, Refusal> {
+        let found = self.newest(alloc, b"a", Qualifier::Data, (stamp, stamp))?;
+        Ok(found.map(|(_, length)| length))
+    }
+
+    /// Whether values at these stamps have 4,000 bytes, and all of them are read, or none is.
+    fn are_read(
+        &mut self,
+        alloc: Global,
+        stamps: &[Stamp],
+        is_read: bool,
+    ) -> Result<bool, Refusal> {
+        for stamp in stamps {
+            let length = self.value_len(alloc, *stamp)?;
+            if length != Some(4000) || self.files.reads.is_empty() == is_read {
+                return Ok(false);
+            }
+        }
+        Ok(true)
+    }
+
+    /// Writes the file of three entries, with this byte at an offset.
+    fn change(&mut self, alloc: Global, at: usize, byte: u8) -> Result<(), Refusal> {
+        let mut bytes = three(alloc)?;
+        put_at(&mut bytes, at, byte);
+        refused(self.files.put(1, &bytes))
+    }
+
+    /// Whether a step goes as it should.
+    fn goes(&mut self, alloc: Global, step: Step) -> Result<bool, Refusal> {
+        match step {
+            Step::Forget => self.file.drop_cache(),
+            Step::Resize(most) => match NonZeroUsize::new(most) {
+                Some(most) => self.file.resize_cache(most),
+                None => return Ok(false),
+            },
+            Step::Change(at, byte) => self.change(alloc, at, byte)?,
+            Step::Data(stamp, reads, length) => {
+                let found = self.value_len(alloc, stamp)?;
+                return Ok(found == length && self.files.reads.as_slice() == reads);
+            }
+            Step::Damaged(stamp) => {
+                return Ok(self.value_len(alloc, stamp) == Err(Refusal::Damaged));
+            }
+            Step::Lock(row, reads, stamp) => {
+                let found = self.newest(alloc, row, Qualifier::Lock, (0, 9))?;
+                let is_found = found.map(|(found, _)| found) == stamp;
+                return Ok(is_found && self.files.reads.as_slice() == reads);
+            }
+            Step::Each(stamps, is_read) => return self.are_read(alloc, stamps, is_read),
+        }
+        Ok(true)
+    }
+}
+
+/// The first step in a file that doesn't go as it should.
+fn first_wrong(alloc: Global, known: Known, steps: &[Step]) -> Result<Option<usize>, Refusal> {
+    let mut recorded = recorded_file(alloc, &bytes_of(alloc, known)?)?;
+    for (at, step) in steps.iter().enumerate() {
+        if !recorded.goes(alloc, *step)? {
+            return Ok(Some(at));
+        }
+    }
+    Ok(None)
+}
+
+#[test]
+fn blocks_that_are_read(rt: HostRuntime) -> Result<(), Fail> {
+    for (file, (known, steps)) in OPENED.iter().enumerate() {
+        let wrong = first_wrong(rt.alloc(), *known, *steps)?;
+        assert!(rt; wrong.is_none(), "{file} {wrong:?}");
+    }
+    Ok(())
 }
 
 /// The file of the locks, as a list.
@@ -425,71 +497,6 @@ fn may_have_locks(alloc: Global, from: Stamp) -> Result<bool, Refusal> {
 /// The index of the file of the locks.
 fn index_of_locks(alloc: Global) -> Result<LockIndex, Refusal> {
     LockIndex::of(alloc, &files_of_locks(alloc)?)
-}
-
-/// Whether an index says that a row may have locks.
-fn may_have_row(alloc: Global, index: &LockIndex, row: &[u8]) -> Result<bool, Refusal> {
-    let row = Row::new(alloc, row)?;
-    Ok(index.may_have_row(&row))
-}
-
-/// The stamp of a row's newest lock up to 9 in an index, which must have none up to 0.
-fn latest(alloc: Global, index: &LockIndex, row: &[u8]) -> Result<Option<Stamp>, Refusal> {
-    let mut key = lock_key(alloc, row)?;
-    let latest = index.latest(&key, 0);
-    key.set_stamp(0);
-    match index.latest(&key, 0) {
-        None => Ok(latest),
-        Some(_) => Err(Refusal::Damaged),
-    }
-}
-
-/// Whether a file with an empty cache answers this stamp for a row's newest lock, and makes these reads.
-fn is_newest(
-    alloc: Global,
-    recorded: &mut Recorded,
-    row: &[u8],
-    stamp: Option<Stamp>,
-    reads: &[(u64, u64, usize)],
-) -> Result<bool, Refusal> {
-    let key = lock_key(alloc, row)?;
-    recorded.file.drop_cache();
-    recorded.files.reads.clear();
-    let found = match recorded.file.newest(&key, 0, &mut recorded.files)? {
-        Some((found, Some(_))) => Some(found),
-        _ => None,
-    };
-    Ok(found == stamp && recorded.files.reads.as_slice() == reads)
-}
-
-#[test]
-fn lock_tests_read_what_is_locked(rt: HostRuntime) -> Result<(), Fail> {
-    let mut recorded = recorded_file(rt.alloc(), LOCKS)?;
-    for (row, stamp, reads) in LOCK_TESTS {
-        assert!(rt; is_newest(rt.alloc(), &mut recorded, row, stamp, reads)?);
-    }
-    Ok(())
-}
-
-/// Whether an index has this newest lock of a row up to 9, and says whether the row may have locks.
-fn is_indexed(
-    alloc: Global,
-    index: &LockIndex,
-    row: &[u8],
-    stamp: Option<Stamp>,
-) -> Result<bool, Refusal> {
-    let may_have = may_have_row(alloc, index, row)?;
-    Ok(may_have == stamp.is_some() && latest(alloc, index, row)? == stamp)
-}
-
-#[test]
-fn lock_tests_of_the_index(rt: HostRuntime) -> Result<(), Fail> {
-    assert!(rt; may_have_locks(rt.alloc(), 0)? && !may_have_locks(rt.alloc(), 2)?);
-    let index = index_of_locks(rt.alloc())?;
-    for (row, stamp, _) in LOCK_TESTS {
-        assert!(rt; is_indexed(rt.alloc(), &index, row, stamp)?);
-    }
-    Ok(())
 }
 
 /// A file of an erasure of the lock of `a`, at the stamp 1.
@@ -512,121 +519,45 @@ fn index_of_both(alloc: Global) -> Result<LockIndex, Refusal> {
     index.over(&newer)
 }
 
+/// The stamp of a row's newest lock up to 9 in an index, which must have none up to 0.
+fn latest(alloc: Global, index: &LockIndex, row: &[u8]) -> Result<Option<Stamp>, Refusal> {
+    let mut key = key_of(alloc, row, Qualifier::Lock, 9)?;
+    let latest = index.latest(&key, 0);
+    key.set_stamp(0);
+    match index.latest(&key, 0) {
+        None => Ok(latest),
+        Some(_) => Err(Refusal::Damaged),
+    }
+}
+
+/// Whether an index has this newest lock of a row up to 9, and says whether the row may have locks.
+fn is_indexed(
+    alloc: Global,
+    index: &LockIndex,
+    row: &[u8],
+    stamp: Option<Stamp>,
+) -> Result<bool, Refusal> {
+    let may_have = index.may_have_row(&Row::new(alloc, row)?);
+    Ok(may_have == stamp.is_some() && latest(alloc, index, row)? == stamp)
+}
+
+/// Rows, the stamp of the newest lock of each in the index of the file of the locks, and in that of both files.
+const INDEXED: [(&[u8], Option<Stamp>, Option<Stamp>); 4] = [
+    (b"a", Some(1), None),
+    (b"b", None, None),
+    (b"bb", None, None),
+    (b"c", Some(1), Some(1)),
+];
+
+/// Erased locks leave the index.
 #[test]
-fn erased_locks_leave_the_index(rt: HostRuntime) -> Result<(), Fail> {
+fn locks_of_indexes(rt: HostRuntime) -> Result<(), Fail> {
+    assert!(rt; may_have_locks(rt.alloc(), 0)? && !may_have_locks(rt.alloc(), 2)?);
     let index = index_of_locks(rt.alloc())?;
     let both = index_of_both(rt.alloc())?;
-    for (row, after) in [(b"a", None), (b"c", Some(1))] {
-        assert!(rt; is_indexed(rt.alloc(), &index, row, Some(1))?);
-        assert!(rt; latest(rt.alloc(), &both, row)? == after);
+    for (row, stamp, later) in INDEXED {
+        assert!(rt; is_indexed(rt.alloc(), &index, row, stamp)?);
+        assert!(rt; latest(rt.alloc(), &both, row)? == later);
     }
-    Ok(())
-}
-
-/// Offsets in the file of three entries, and bytes set there: in the length of the second key, and in the row of the
-/// first.
-const GARBLED: [(usize, u8); 2] = [(2059, 0x17), (12, b'`')];
-
-/// Whether a lookup at the stamp 3 is refused as damaged.
-fn is_refused(alloc: Global, recorded: &mut Recorded) -> bool {
-    matches!(recorded.value_len(alloc, 3), Err(Refusal::Damaged))
-}
-
-/// Writes the file of three entries, with this byte at an offset.
-fn put_changed(alloc: Global, files: &mut Recorder, at: usize, byte: u8) -> Result<(), Refusal> {
-    let mut bytes = three(alloc)?;
-    put_at(&mut bytes, at, byte);
-    refused(files.put(1, &bytes))
-}
-
-/// Whether a cached block is still used when its bytes on disk have changed in this way, and is refused once it is read
-/// again.
-fn is_kept(alloc: Global, at: usize, byte: u8) -> Result<bool, Refusal> {
-    let mut recorded = recorded_file(alloc, &three(alloc)?)?;
-    let before = recorded.value_len(alloc, 3)?;
-    put_changed(alloc, &mut recorded.files, at, byte)?;
-    let after = recorded.value_len(alloc, 3)?;
-    recorded.file.drop_cache();
-    Ok(before == Some(2017) && after == before && is_refused(alloc, &mut recorded))
-}
-
-/// Whether a block whose bytes have changed in this way is refused, however often it is read.
-fn is_never_kept(alloc: Global, at: usize, byte: u8) -> Result<bool, Refusal> {
-    let mut recorded = recorded_file(alloc, &three(alloc)?)?;
-    put_changed(alloc, &mut recorded.files, at, byte)?;
-    Ok(is_refused(alloc, &mut recorded) && is_refused(alloc, &mut recorded))
-}
-
-#[test]
-fn garbled_blocks_are_not_kept(rt: HostRuntime) -> Result<(), Fail> {
-    for (at, byte) in GARBLED {
-        assert!(rt; is_kept(rt.alloc(), at, byte)?);
-        assert!(rt; is_never_kept(rt.alloc(), at, byte)?);
-    }
-    Ok(())
-}
-
-/// Writes `a` at a stamp: an erasure if the stamp is divisible by 3, otherwise a value of 500 to 4,000 bytes.
-fn write_some(alloc: Global, table: &mut Memtable, stamp: Stamp) -> Result<(), Refusal> {
-    let value = vec![in alloc; (stamp % 256) as u8; 500 * (stamp % 9) as usize]?;
-    let put = (stamp % 3 != 0).then_some(value.as_slice());
-    write(alloc, table, stamp, put)
-}
-
-/// A file of `a` at the even stamps from 2 to 28: more than five blocks.
-fn many(alloc: Global) -> Result<Vec<u8>, Refusal> {
-    let mut table = Memtable::new(alloc);
-    for half in 1..15u64 {
-        write_some(alloc, &mut table, half * 2)?;
-    }
-    file_of(alloc, &table)
-}
-
-/// Whether a lookup's entry is the one that a slow lookup of a key finds in the bytes.
-fn is_entry(
-    alloc: Global,
-    key: &CellKey,
-    entry: Option<Option<&[u8]>>,
-    bytes: &[u8],
-) -> Result<bool, Refusal> {
-    let mut text = Vec::new(alloc);
-    key.encode(&mut text)?;
-    Ok(entry == found_at(bytes, &text))
-}
-
-impl Recorded {
-    /// Whether a lookup at a stamp of `a` finds the same as a slow lookup in the bytes.
-    fn agrees_on(&mut self, alloc: Global, stamp: Stamp, bytes: &[u8]) -> Result<bool, Refusal> {
-        let key = LookupKey::new(alloc, key_of_a(alloc, stamp)?)?;
-        match self.file.newest(&key, stamp, &mut self.files)? {
-            Some((_, Some(value))) => is_entry(
-                alloc,
-                key.key(),
-                Some(Some(value.as_slice())),
-                bytes,
-            ),
-            Some((_, None)) => is_entry(alloc, key.key(), Some(None), bytes),
-            None => is_entry(alloc, key.key(), None, bytes),
-        }
-    }
-}
-
-/// Whether lookups agree with slow ones at each stamp below `end`, in a file of these bytes.
-fn agree_below(alloc: Global, bytes: &[u8], end: Stamp) -> Result<bool, Refusal> {
-    let mut recorded = recorded_file(alloc, bytes)?;
-    for stamp in 0..end {
-        if !recorded.agrees_on(alloc, stamp, bytes)? {
-            return Ok(false);
-        }
-    }
-    Ok(true)
-}
-
-/// Each key of a file of more than five blocks, and keys before, between and after them; and the file of three entries
-/// in format 1.
-#[test]
-fn a_slow_look_up_agrees(rt: HostRuntime) -> Result<(), Fail> {
-    assert!(rt; agree_below(rt.alloc(), &many(rt.alloc())?, 31)?);
-    assert!(rt; agree_below(rt.alloc(), &three(rt.alloc())?, 5)?);
     Ok(())
 }

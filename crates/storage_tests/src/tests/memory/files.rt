@@ -112,16 +112,17 @@ const SORTED_CALLS: [Call; 7] = [
     (b"", b"\x95--x2x3x1"),
 ];
 
-/// Writes a value of one byte into a row, and an erasure at the stamp 9.
-fn write(
+/// Writes a value into a row at a stamp, or an erasure, and another erasure at the stamp `erased` if there is one.
+pub fn write(
     alloc: Global,
     table: &mut Memtable,
-    row: u8,
+    row: &[u8],
     stamp: Stamp,
-    value: u8,
+    value: Option<&[u8]>,
+    erased: Option<Stamp>,
 ) -> Result<(), Refusal> {
-    let row = Row::new(alloc, &[row])?;
-    let edits = edits_of(alloc, &row, stamp, Some(&[value]), Some(9))?;
+    let row = Row::new(alloc, row)?;
+    let edits = edits_of(alloc, &row, stamp, value, erased)?;
     table.apply(&row, edits)
 }
 
@@ -161,7 +162,33 @@ fn size_of(files: &mut MemFiles, name: u64) -> Result<u8, Refusal> {
     }
 }
 
-/// Writes a memtable and perhaps a file, the newer first, as a file with a name.
+/// Writes a memtable and perhaps a file, the newer first, as a file with a name. It may have at most `limit` bytes, or
+/// the maximum if that is no limit.
+pub fn merge_within<F: Files>(
+    alloc: Global,
+    table: &Memtable,
+    file: Option<&SortedFile>,
+    keep_erasures: bool,
+    name: u64,
+    limit: u64,
+    files: &mut F,
+) -> Result<(), Refusal> {
+    let mut sources = Vec::new(alloc);
+    sources.push(Input::Memtable(table.cursor(b"")))?;
+    if let Some(file) = file {
+        sources.push(Input::File(file.cursor(b"")))?;
+    }
+    let none = LockIndex::new(alloc);
+    let limit = if 48 <= limit && limit <= FILE_LIMIT {
+        limit
+    } else {
+        FILE_LIMIT
+    };
+    let _file = merge_into(alloc, sources, keep_erasures, name, limit, &none, files)?;
+    Ok(())
+}
+
+/// The same within the maximum, of files in memory.
 pub fn merge(
     alloc: Global,
     table: &Memtable,
@@ -170,22 +197,7 @@ pub fn merge(
     name: u64,
     files: &mut MemFiles,
 ) -> Result<(), Refusal> {
-    let mut sources = Vec::new(alloc);
-    sources.push(Input::Memtable(table.cursor(b"")))?;
-    if let Some(file) = file {
-        sources.push(Input::File(file.cursor(b"")))?;
-    }
-    let none = LockIndex::new(alloc);
-    let _file = merge_into(
-        alloc,
-        sources,
-        keep_erasures,
-        name,
-        FILE_LIMIT,
-        &none,
-        files,
-    )?;
-    Ok(())
+    merge_within(alloc, table, file, keep_erasures, name, FILE_LIMIT, files)
 }
 
 /// Writes a sorted file again as the file 2; answers the name of the file written.
@@ -198,16 +210,16 @@ pub fn write_again(alloc: Global, file: &SortedFile, files: &mut MemFiles) -> Re
 
 pub const SORTED: Table = (b"\x95--x2x1", &SORTED_CALLS);
 
-/// A memtable with a write of `a` at a stamp.
-fn table_of(alloc: Global, stamp: Stamp, value: u8) -> Result<Memtable, Refusal> {
+/// A memtable with a write of `a` at a stamp, and an erasure at 9.
+fn table_of(alloc: Global, stamp: Stamp, value: &[u8]) -> Result<Memtable, Refusal> {
     let mut table = Memtable::new(alloc);
-    write(alloc, &mut table, b'a', stamp, value)?;
+    write(alloc, &mut table, b"a", stamp, Some(value), Some(9))?;
     Ok(table)
 }
 
 /// Writes the sorted file, and opens it.
 fn file_of(alloc: Global, files: &mut MemFiles) -> Result<SortedFile, Refusal> {
-    let older = table_of(alloc, 1, b'1')?;
+    let older = table_of(alloc, 1, b"1")?;
     merge(alloc, &older, None, true, 1, files)?;
     SortedFile::open(alloc, 1, files)
 }
@@ -220,7 +232,7 @@ fn found_again(alloc: Global, files: &mut MemFiles) -> Result<u8, Refusal> {
 
 impl Subject for Sorted {
     fn set_up(alloc: Global) -> Result<Sorted, Refusal> {
-        let table = table_of(alloc, 2, b'2')?;
+        let table = table_of(alloc, 2, b"2")?;
         let mut files = MemFiles::new(alloc);
         let file = file_of(alloc, &mut files)?;
         Ok(Sorted { files, file, table })
@@ -235,9 +247,9 @@ impl Subject for Sorted {
             1 => return Ok(wanted == [found_again(alloc, files)?].as_slice()),
             2 => return Ok(wanted == [found(alloc, &mut self.file, files, 1)?].as_slice()),
             3 => merge(alloc, &self.table, Some(&self.file), true, 2, files)?,
-            4 => write(alloc, &mut self.table, b'a', 3, b'3')?,
-            5 => write(alloc, &mut self.table, b'a', 2, b'3')?,
-            _ => write(alloc, &mut self.table, b'b', 1, b'3')?,
+            4 => write(alloc, &mut self.table, b"a", 3, Some(b"3"), Some(9))?,
+            5 => write(alloc, &mut self.table, b"a", 2, Some(b"3"), Some(9))?,
+            _ => write(alloc, &mut self.table, b"b", 1, Some(b"3"), Some(9))?,
         }
         Ok(wanted.is_empty())
     }
