@@ -1,5 +1,6 @@
 //! Tests of rows: clusters of tablets, sessions over rows, and the oracle.
 
+mod asks;
 mod caches;
 mod clusters;
 mod memory;

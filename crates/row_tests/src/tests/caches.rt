@@ -1,79 +1,12 @@
 //! The cache of places of a cluster, and the emptying of its caches.
 
-ghost use Rattle.std.specs.Prelude.{IfOk};
-ghost use Rattle.cell_key.specs.Cells.{IsEditOf};
-ghost use Rattle.row_atomic.specs.Commands.{IsUnderRow};
-
+use crate::tests::asks::{Ask, run};
 use crate::tests::memory::clusters::{new_cluster, newest};
-use cell_key::{CellKey, Edit, Family, Qualifier, Refusal, Row, Stamp};
+use cell_key::Refusal;
 use file_store::MemFiles;
-use row_atomic::{Cluster, Command, Outcome};
+use row_atomic::{Cluster, Outcome};
 use std::alloc::Global;
 use std::test::Fail;
-
-/// A request to a cluster. A write puts a lock at the stamp 1, and a read looks for one in a range of stamps.
-#[derive(Clone, Copy)]
-enum Ask {
-    Write(u8, &'static [u8]),
-    Read(u8, Stamp, Stamp),
-    Minor(u32),
-    Merge(u32, u32),
-    Major(u32),
-    Split(u8),
-    Move(u32, u8),
-    Sweep,
-    DropCaches,
-}
-
-/// The edit that puts a lock of this value, of at most 65,536 bytes, at the stamp 1.
-fn lock_edit(alloc: Global, row: &Row, value: &[u8]) -> Result<Edit, Refusal>
-    ensures { IfOk result (IsEditOf row.now) }
-{
-    if value.len() > 65_536 {
-        return Err(Refusal::BadValue);
-    }
-    let key = CellKey {
-        row: row.clone()?,
-        family: Family::new(alloc, b"c")?,
-        qualifier: Qualifier::Lock,
-        stamp: 1,
-    };
-    Ok(Edit::Put(key, Vec::from_slice(alloc, value)?))
-}
-
-/// The write of a lock of this value at the stamp 1.
-fn write_of(alloc: Global, row: u8, value: &[u8]) -> Result<Command, Refusal>
-    ensures { IfOk result IsUnderRow }
-{
-    let row = Row::new(alloc, &[row])?;
-    let mut edits = Vec::new(alloc);
-    edits.push(lock_edit(alloc, &row, value)?)?;
-    Ok(Command::Apply { row, edits })
-}
-
-fn command_of(alloc: Global, ask: Ask) -> Result<Command, Refusal>
-    ensures { IfOk result IsUnderRow }
-{
-    match ask {
-        Ask::Write(row, value) => write_of(alloc, row, value),
-        Ask::Read(row, lo, hi) => Ok(Command::Newest {
-            row: Row::new(alloc, &[row])?,
-            family: Family::new(alloc, b"c")?,
-            qualifier: Qualifier::Lock,
-            lo,
-            hi,
-        }),
-        Ask::Minor(tablet) => Ok(Command::Minor { tablet }),
-        Ask::Merge(tablet, count) => Ok(Command::Merge { tablet, count }),
-        Ask::Major(tablet) => Ok(Command::Major { tablet }),
-        Ask::Split(row) => Ok(Command::Split {
-            row: Row::new(alloc, &[row])?,
-        }),
-        Ask::Move(tablet, server) => Ok(Command::Move { tablet, server }),
-        Ask::Sweep => Ok(Command::Sweep),
-        Ask::DropCaches => Ok(Command::DropCaches),
-    }
-}
 
 /// Whether an outcome is this: the left part's number, the number of files swept, the value found, or the refusal's
 /// number after a byte FF.
@@ -95,7 +28,7 @@ const ASKED: [(Ask, &[u8]); 13] = [
     (Ask::Move(3, 16), b"\xFF\x0B"),
     (Ask::Move(2, 16), b"\xFF\x0D"),
     (Ask::Move(2, 3), b""),
-    (Ask::Write(b'm', b"m\0\0c\0\0"), b""),
+    (Ask::Lock(b'm', b"m\0\0c\0\0"), b""),
     (Ask::Read(b'm', 0, 9), b"m\0\0c\0\0"),
     (Ask::Read(b'm', 9, 0), b""),
     (Ask::Major(2), b""),
@@ -112,13 +45,12 @@ fn is_answered(
     ask: Ask,
     wanted: &[u8],
 ) -> Result<bool, Refusal> {
-    let commands = vec![in alloc; command_of(alloc, ask)?]?;
-    Ok(is_outcome(cluster.run(commands)?.get(0), wanted))
+    Ok(is_outcome(run(alloc, cluster, ask)?.get(0), wanted))
 }
 
 /// Whether a cluster gives all wanted answers, with its caches emptied before each request, or never.
 fn answers(alloc: Global, drops: bool) -> Result<bool, Refusal> {
-    let mut cluster = new_cluster(alloc)?;
+    let mut cluster = Box::new(alloc, new_cluster(alloc)?)?;
     for (ask, wanted) in ASKED {
         if drops {
             cluster.drop_caches();
@@ -152,7 +84,7 @@ const HITS: [(Option<Ask>, &[u8], u64); 12] = [
     (Some(Ask::Move(1, 3)), b"a", 3),
     (Some(Ask::Move(1, 3)), b"a", 3),
     // a write looks the row up once, and caches it
-    (Some(Ask::Write(b'z', b"1")), b"z", 4),
+    (Some(Ask::Lock(b'z', b"1")), b"z", 4),
     // compactions and sweeps keep the cache
     (Some(Ask::Minor(1)), b"az", 6),
     (Some(Ask::Major(1)), b"az", 8),
@@ -167,8 +99,7 @@ fn hits_after(
     rows: &[u8],
 ) -> Result<u64, Refusal> {
     if let Some(ask) = ask {
-        let commands = vec![in alloc; command_of(alloc, ask)?]?;
-        let _outcomes = cluster.run(commands)?;
+        let _outcomes = run(alloc, cluster, ask)?;
     }
     for row in rows {
         newest(alloc, cluster, *row)?;
@@ -178,7 +109,7 @@ fn hits_after(
 
 #[test]
 fn rows_are_found_again(rt: HostRuntime) -> Result<(), Fail> {
-    let mut cluster = new_cluster(rt.alloc())?;
+    let mut cluster = Box::new(rt.alloc(), new_cluster(rt.alloc())?)?;
     for (ask, rows, hits) in HITS {
         assert!(rt; hits_after(rt.alloc(), &mut cluster, ask, rows)? == hits);
     }
@@ -188,10 +119,10 @@ fn rows_are_found_again(rt: HostRuntime) -> Result<(), Fail> {
 /// Of 129 rows read in order the first is evicted, and the last is still cached.
 #[test]
 fn rows_are_kept_for_a_while(rt: HostRuntime) -> Result<(), Fail> {
-    let mut cluster = new_cluster(rt.alloc())?;
+    let mut cluster = Box::new(rt.alloc(), new_cluster(rt.alloc())?)?;
     assert!(rt; hits_after(rt.alloc(), &mut cluster, Some(Ask::Split(b'm')), &[])? == 0);
     for row in 0..129 {
-        newest(rt.alloc(), &mut cluster, row)?;
+        newest(rt.alloc(), &mut *cluster, row)?;
     }
     assert!(rt; hits_after(rt.alloc(), &mut cluster, None, &[0])? == 0);
     assert!(rt; hits_after(rt.alloc(), &mut cluster, None, &[128, 2])? == 2);

@@ -4,7 +4,7 @@ use cell_key::{MOST_STAMP, Refusal, Stamp};
 use row_atomic::PlainRows;
 use rows::Stamps;
 use si_model::{Found, Progress};
-use std::alloc::Global;
+use std::alloc::{AllocError, Global};
 use std::marker::Model;
 use std::test::Fail;
 use txn_client::Clients;
@@ -54,14 +54,15 @@ struct Servers {
     stamps: Shared,
 }
 
-/// Two servers without sessions, over no rows.
-fn new_servers(alloc: Global) -> Servers {
-    Servers {
+/// Two servers without sessions, over no rows. In their box they are dropped by one call.
+fn new_servers(alloc: Global) -> Result<Box<Servers>, AllocError> {
+    let servers = Servers {
         first: Clients::new(alloc, 0),
         second: Clients::new(alloc, 0),
         rows: PlainRows::new(alloc),
         stamps: Shared { last: 0 },
-    }
+    };
+    Ok(Box::new(alloc, servers)?)
 }
 
 impl Servers {
@@ -83,6 +84,11 @@ impl Servers {
         self.step(start)
     }
 
+    /// Begins a session of the second server.
+    fn begin(&mut self) -> Result<Stamp, Refusal> {
+        self.second.begin(&mut self.stamps)
+    }
+
     /// The first byte that a session of the second server finds in that cell, or `-`.
     fn read(&mut self, start: Stamp) -> Result<u8, Refusal> {
         match self.second.get(&mut self.rows, start, b"bob", b"bal")? {
@@ -95,10 +101,10 @@ impl Servers {
 
 #[test]
 fn reads_at_starts_that_were_drawn(rt: HostRuntime) -> Result<(), Fail> {
-    let mut servers = new_servers(rt.alloc());
-    let early = servers.second.begin(&mut servers.stamps)?;
+    let mut servers = new_servers(rt.alloc())?;
+    let early = servers.begin()?;
     let commit = servers.commit()?;
-    let late = servers.second.begin(&mut servers.stamps)?;
+    let late = servers.begin()?;
     assert!(rt; early == 10 && commit == 30 && late == 40);
     assert!(rt; servers.read(early)? == b'-');
     assert!(rt; servers.read(late)? == b'7');

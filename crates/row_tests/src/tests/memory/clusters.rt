@@ -238,20 +238,26 @@ const WRITES: [(u8, Stamp, u8, u8); 5] = [
     (b'n', 2, b'4', 0),
 ];
 
+/// Makes these writes and compactions.
+fn fill(alloc: Global, cluster: &mut Cluster<MemFiles>) -> Result<(), Refusal> {
+    for (row, stamp, value, compactions) in WRITES {
+        write(alloc, cluster, row, stamp, value)?;
+        if compactions > 0 {
+            cluster.minor(1)?;
+        }
+        if compactions > 1 {
+            cluster.merge(1, 2)?;
+        }
+    }
+    Ok(())
+}
+
 pub const CLUSTERED: Table = (b"54\x0E\x0B", &CLUSTER_CALLS);
 
 impl Subject for Clustered {
     fn set_up(alloc: Global) -> Result<Clustered, Refusal> {
         let mut cluster = new_cluster(alloc)?;
-        for (row, stamp, value, compactions) in WRITES {
-            write(alloc, &mut cluster, row, stamp, value)?;
-            if compactions > 0 {
-                cluster.minor(1)?;
-            }
-            if compactions > 1 {
-                cluster.merge(1, 2)?;
-            }
-        }
+        fill(alloc, &mut cluster)?;
         Ok(Clustered { cluster })
     }
 
@@ -295,16 +301,20 @@ const PARTED_CALLS: [Call; 1] = [
     (b"", b"89"),
 ];
 
+/// Makes the two tablets.
+fn part(alloc: Global, cluster: &mut Cluster<MemFiles>) -> Result<(), Refusal> {
+    write(alloc, cluster, b'a', 1, b'1')?;
+    write(alloc, cluster, b'n', 1, b'2')?;
+    cluster.split(&Row::new(alloc, b"m")?)?;
+    write(alloc, cluster, b'a', 2, b'3')
+}
+
 pub const PARTED: Table = (b"32", &PARTED_CALLS);
 
 impl Subject for Parted {
     fn set_up(alloc: Global) -> Result<Parted, Refusal> {
         let mut cluster = new_cluster(alloc)?;
-        write(alloc, &mut cluster, b'a', 1, b'1')?;
-        write(alloc, &mut cluster, b'n', 1, b'2')?;
-        let row = Row::new(alloc, b"m")?;
-        cluster.split(&row)?;
-        write(alloc, &mut cluster, b'a', 2, b'3')?;
+        part(alloc, &mut cluster)?;
         Ok(Parted { cluster })
     }
 

@@ -128,16 +128,15 @@ impl Sessions {
     /// Begins this many sessions, makes their sets, and runs the steps of one.
     fn begin(&mut self, count: u8, starts: (Stamp, Stamp), steps: u8) -> Result<(), Refusal> {
         for _ in 0..count {
-            self.clients.begin(&mut self.oracle)?;
+            self.start()?;
         }
         for (start, row, value) in SETS {
             if start >= starts.0 && start <= starts.1 {
-                self.clients.set(start, row, b"bal", value)?;
+                self.set(start, row, value)?;
             }
         }
         for _ in 0..steps {
-            self.clients
-                .step(&mut self.rows, &mut self.oracle, starts.0)?;
+            self.step(starts.0)?;
         }
         Ok(())
     }
@@ -145,6 +144,16 @@ impl Sessions {
     /// Begins a session; answers the lowest byte of its start.
     fn start(&mut self) -> Result<u8, Refusal> {
         Ok((self.clients.begin(&mut self.oracle)? % 256) as u8)
+    }
+
+    /// Sets a cell of a session.
+    fn set(&mut self, start: Stamp, row: &[u8], value: &[u8]) -> Result<(), Refusal> {
+        self.clients.set(start, row, b"bal", value)
+    }
+
+    /// Deletes a cell of session 4.
+    fn delete(&mut self, row: &[u8]) -> Result<(), Refusal> {
+        self.clients.delete(4, row, b"bal")
     }
 
     /// The result of a step of a session.
@@ -176,11 +185,11 @@ impl Sessions {
     /// The calls without an answer.
     fn call(&mut self, number: usize) -> Result<(), Refusal> {
         match number {
-            3 => self.clients.set(4, b"a", b"bal", b"7"),
-            4 => self.clients.set(4, b"n", b"bal", b"7"),
+            3 => self.set(4, b"a", b"7"),
+            4 => self.set(4, b"n", b"7"),
             8 => self.clients.stop(3),
-            9 => self.clients.delete(4, b"a", b"bal"),
-            _ => self.clients.delete(4, b"n", b"bal"),
+            9 => self.delete(b"a"),
+            _ => self.delete(b"n"),
         }
     }
 }
