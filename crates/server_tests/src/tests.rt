@@ -10,6 +10,7 @@ mod statuses;
 
 ghost use Rattle.std.specs.Prelude.{◌≤◌, IfSome, IsTrue};
 
+use crate::tests::memory::servers::serve;
 use cell_key::Refusal;
 use file_store::MemFiles;
 use oracle::MemMark;
@@ -35,8 +36,8 @@ const FLUSH: FlushLimits = FlushLimits {
     bytes: None,
 };
 
-/// A server over files in memory, each of `file_limit` bytes at most.
-fn new_server(alloc: Global, file_limit: u64) -> Result<MemServer, Refusal> {
+/// A server over files in memory, each of `file_limit` bytes at most. In its box it is dropped by one call.
+fn new_server(alloc: Global, file_limit: u64) -> Result<Box<MemServer>, Refusal> {
     flushing_server(alloc, FLUSH, file_limit)
 }
 
@@ -55,7 +56,7 @@ fn flushing_server(
     alloc: Global,
     flush: FlushLimits,
     file_limit: u64,
-) -> Result<MemServer, Refusal> {
+) -> Result<Box<MemServer>, Refusal> {
     if flush.entries == 0 || flush.entries > 100_000 || !are_flush_bytes(flush.bytes) {
         return Err(Refusal::FileTooLarge);
     }
@@ -64,7 +65,7 @@ fn flushing_server(
     }
     let config = Config { flush, file_limit };
     match Server::new(alloc, MemFiles::new(alloc), MemMark::new(), config) {
-        Ok(server) => Ok(server),
+        Ok(server) => Ok(Box::new(alloc, server)?),
         Err((refusal, _, _)) => Err(refusal),
     }
 }
@@ -77,7 +78,7 @@ fn served<I: Read, O: Write>(
     most_reads: u64,
 ) -> Result<Ended, Refusal> {
     let mut server = new_server(alloc, FILE_LIMIT)?;
-    Ok(server.serve(reader, writer, most_reads))
+    Ok(serve(&mut server, reader, writer, most_reads))
 }
 
 /// How a new server ends after at most this many reads, and the bytes that it has written and flushed.
@@ -135,38 +136,6 @@ fn cleaners(rt: HostRuntime) -> Result<(), Fail> {
 #[test]
 fn collectors(rt: HostRuntime) -> Result<(), Fail> {
     assert!(rt; are_met(rt.alloc(), &collecting::ROWS)?);
-    Ok(())
-}
-
-/// Rows of deletions: without automatic compactions, and with memtables compacted after each reply and files merged at
-/// two.
-#[test]
-fn deletions(rt: HostRuntime) -> Result<(), Fail> {
-    for row in deleting::ROWS {
-        assert!(rt; flushing(rt.alloc(), 10_000, None, &row)?);
-        assert!(rt; flushing(rt.alloc(), 1, Some(2), &row)?);
-    }
-    Ok(())
-}
-
-/// Rows of scans: without automatic compactions, and with memtables compacted after each reply and files merged at two.
-#[test]
-fn scans(rt: HostRuntime) -> Result<(), Fail> {
-    for row in scanning::ROWS {
-        assert!(rt; flushing(rt.alloc(), 10_000, None, &row)?);
-        assert!(rt; flushing(rt.alloc(), 1, Some(2), &row)?);
-    }
-    Ok(())
-}
-
-/// Rows of transactions in one request: without automatic compactions, and with memtables compacted after each reply and
-/// files merged at two.
-#[test]
-fn commits_and_reads(rt: HostRuntime) -> Result<(), Fail> {
-    for row in transactions::ROWS {
-        assert!(rt; flushing(rt.alloc(), 10_000, None, &row)?);
-        assert!(rt; flushing(rt.alloc(), 1, Some(2), &row)?);
-    }
     Ok(())
 }
 
@@ -305,19 +274,28 @@ const FLUSHES: [(usize, &[u8], u64); 4] = [
     (3, TWO_REPLIES, 3),
 ];
 
+/// Whether a server ends with a write fault after this many flushes, has then flushed these replies, and next begins a
+/// session at this start.
+fn is_flushed(
+    alloc: Global,
+    flushes_left: usize,
+    replies: &[u8],
+    start: u64,
+) -> Result<bool, Refusal> {
+    let mut server = new_server(alloc, FILE_LIMIT)?;
+    let mut reader = Pieces::new(alloc, TWO_BEGINS)?;
+    reader.most = BEGIN.len();
+    let mut writer = Holding::new(alloc);
+    writer.flushes_left = flushes_left;
+    let ended = serve(&mut server, &mut reader, &mut writer, u64::MAX);
+    let is_told = matches!(ended, Err(ServeFault::Write)) && writer.out.as_slice() == replies;
+    Ok(is_told && matches!(server.answer(Request::Begin), Reply::Begin(next) if next == start))
+}
+
 #[test]
 fn a_flush_fails(rt: HostRuntime) -> Result<(), Fail> {
     for (flushes_left, replies, start) in FLUSHES {
-        let mut server = new_server(rt.alloc(), FILE_LIMIT)?;
-        let mut reader = Pieces::new(rt.alloc(), TWO_BEGINS)?;
-        reader.most = BEGIN.len();
-        let mut writer = Holding::new(rt.alloc());
-        writer.flushes_left = flushes_left;
-        let ended = server.serve(&mut reader, &mut writer, u64::MAX);
-        assert!(rt; matches!(ended, Err(ServeFault::Write)));
-        assert!(rt; writer.out.as_slice() == replies);
-        let next = server.answer(Request::Begin);
-        assert!(rt; matches!(next, Reply::Begin(next) if next == start));
+        assert!(rt; is_flushed(rt.alloc(), flushes_left, replies, start)?);
     }
     Ok(())
 }
@@ -336,7 +314,7 @@ fn flushing(alloc: Global, flush: u32, merge: Option<u32>, row: &Row) -> Result<
     }
     let mut reader = requests.as_slice();
     let mut writer = Holding::new(alloc);
-    let ended = server.serve(&mut reader, &mut writer, u64::MAX);
+    let ended = serve(&mut server, &mut reader, &mut writer, u64::MAX);
     Ok(matches!(ended, Ok(End::Clean)) && writer.out == replies)
 }
 
@@ -353,8 +331,22 @@ const COMPACTIONS: [(u32, Option<u32>, Row); 9] = [
     (10_000, Some(2), upkeep::CHECKPOINTED_AND_MERGED),
 ];
 
+/// Whether rows are met without automatic compactions, and with memtables compacted after each reply and files merged at
+/// two.
+fn are_flushing(alloc: Global, rows: &[Row]) -> Result<bool, Refusal> {
+    for row in rows {
+        if !flushing(alloc, 10_000, None, row)? || !flushing(alloc, 1, Some(2), row)? {
+            return Ok(false);
+        }
+    }
+    Ok(true)
+}
+
 #[test]
-fn full_memtables_are_compacted(rt: HostRuntime) -> Result<(), Fail> {
+fn rows_with_compactions(rt: HostRuntime) -> Result<(), Fail> {
+    assert!(rt; are_flushing(rt.alloc(), &deleting::ROWS)?);
+    assert!(rt; are_flushing(rt.alloc(), &scanning::ROWS)?);
+    assert!(rt; are_flushing(rt.alloc(), &transactions::ROWS)?);
     for (flush, merge, row) in COMPACTIONS {
         assert!(rt; flushing(rt.alloc(), flush, merge, &row)?);
     }

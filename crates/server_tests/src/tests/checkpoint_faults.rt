@@ -14,7 +14,6 @@ use testing::cleaning::{ROLLED_FORWARD, SESSION_STOPPED};
 use testing::frames::{push_frame, stream_of, streams_of};
 use testing::rows::{COMMITTED, Row};
 use testing::script::{COLLECTED, COLUMNS, MERGED, SPLIT, WRITTEN};
-use testing::streams::Holding;
 
 type FailingServer = Server<FailAt<DirFiles<HostRuntime>>, DirMark<HostRuntime>>;
 
@@ -77,13 +76,13 @@ fn new_folder(rt: &HostRuntime, name: &str) -> io::Result<String> {
 }
 
 /// A server of a folder, whose files fail at this call, or never if it is 0. It opens them as the program does when it
-/// is started.
+/// is started. In its box it is dropped by one call.
 fn failing_server(
     rt: &HostRuntime,
     path: &str,
     at: u64,
     how: How,
-) -> Result<FailingServer, Refusal> {
+) -> Result<Box<FailingServer>, Refusal> {
     let files = match DirFiles::open(*rt, path) {
         Ok(files) => FailAt::new(files, at, how),
         Err(_) => return Err(Refusal::Device),
@@ -97,13 +96,30 @@ fn failing_server(
         file_limit: FILE_LIMIT,
     };
     match Server::open(rt.alloc(), files, marks, config) {
-        Ok(server) => Ok(server),
+        Ok(server) => Ok(Box::new(rt.alloc(), server)?),
         Err((refusal, _, _)) => Err(refusal),
     }
 }
 
 /// Opens a folder with one failing call of its files, and serves frames up to the first that is refused Device. Returns
-/// the number of bytes of the frames from that one on.
+/// the replies, and the number of bytes of the frames from the refused one on.
+fn asked(
+    rt: &HostRuntime,
+    path: &str,
+    at: u64,
+    how: How,
+    frames: &[u8],
+) -> Result<(Vec<u8>, usize), Refusal> {
+    let watch = Watch::new();
+    let run = Run {
+        refusal: Refusal::Device,
+        watch: &watch,
+    };
+    let mut server = failing_server(rt, path, at, how)?;
+    Ok(served(&mut *server, run, frames, Vec::new(rt.alloc())))
+}
+
+/// That number.
 fn left_of(
     rt: &HostRuntime,
     path: &str,
@@ -111,13 +127,7 @@ fn left_of(
     how: How,
     frames: &[u8],
 ) -> Result<usize, Refusal> {
-    let watch = Watch::new();
-    let run = Run {
-        refusal: Refusal::Device,
-        watch: &watch,
-    };
-    let mut server = failing_server(rt, path, at, how)?;
-    let (_, left) = served(&mut server, run, frames, Vec::new(rt.alloc()));
+    let (_, left) = asked(rt, path, at, how, frames)?;
     Ok(left)
 }
 
@@ -141,11 +151,8 @@ fn read_of(rt: &HostRuntime, path: &str) -> Result<Vec<u8>, Refusal> {
         push_frame(&mut requests, request)?;
     }
     push_frame(&mut requests, SECOND_TABLET)?;
-    let mut reader = requests.as_slice();
-    let mut writer = Holding::new(rt.alloc());
-    let mut server = failing_server(rt, path, 0, How::Before)?;
-    let _ = server.serve(&mut reader, &mut writer, u64::MAX);
-    Ok(writer.out)
+    let (written, _) = asked(rt, path, 0, How::Before, &requests)?;
+    Ok(written)
 }
 
 /// The number of checkpoints whose state a folder has. `None` if the folder is refused as damaged.

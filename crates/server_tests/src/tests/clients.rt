@@ -213,7 +213,8 @@ fn served_clients(
     requests: &[u8],
     most: usize,
 ) -> Result<(Option<End>, Vec<u8>), Refusal> {
-    let mut server = ClientServer::new(alloc, new_server(alloc, FILE_LIMIT)?, admin);
+    let server = new_server(alloc, FILE_LIMIT)?;
+    let mut server = ClientServer::new(alloc, Box::into_inner(server), admin);
     let mut reader = Pieces::new(alloc, requests)?;
     reader.most = most;
     let mut writer = Holding::new(alloc);

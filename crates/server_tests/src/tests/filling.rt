@@ -1,6 +1,7 @@
 //! Memtables that are compacted by the bytes of their entries.
 
 use crate::tests::flushing_server;
+use crate::tests::memory::servers::serve;
 use cell_key::Refusal;
 use server_loop::FlushLimits;
 use std::alloc::{AllocError, Global};
@@ -54,7 +55,7 @@ fn ends_with(alloc: Global, bytes: Option<u32>, count: u8, last: &[u8]) -> Resul
     let stream = stream_of_cells(alloc, count)?;
     let mut reader = stream.as_slice();
     let mut writer = Holding::new(alloc);
-    let ended = server.serve(&mut reader, &mut writer, u64::MAX);
+    let ended = serve(&mut server, &mut reader, &mut writer, u64::MAX);
     Ok(ended.is_ok() && writer.out.ends_with(last))
 }
 

@@ -5,6 +5,7 @@ use cell_key::Refusal;
 use request_codec::{Reply, decode_request};
 use server_loop::{End, ServeFault};
 use std::alloc::Global;
+use std::io::{Read, Write};
 use testing::FILE_LIMIT;
 use testing::frames::stream_of;
 use testing::memory::{Call, Subject, Table};
@@ -406,11 +407,21 @@ fn number_of(server: &mut MemServer, body: &[u8]) -> Result<u8, Refusal> {
     }
 }
 
+/// Serves a stream to its end, or until so many reads were made.
+pub fn serve<I: Read, O: Write>(
+    server: &mut MemServer,
+    reader: &mut I,
+    writer: &mut O,
+    most_reads: u64,
+) -> Result<End, ServeFault> {
+    server.serve(reader, writer, most_reads)
+}
+
 /// Serves a stream, and appends the replies to `out`.
 fn written(server: &mut MemServer, stream: &[u8], out: Vec<u8>) -> Result<Vec<u8>, Refusal> {
     let mut stream = stream;
     let mut out = out;
-    match server.serve(&mut stream, &mut out, u64::MAX) {
+    match serve(server, &mut stream, &mut out, u64::MAX) {
         Ok(End::Clean) => Ok(out),
         Err(ServeFault::NoMemory) => Err(Refusal::NoMemory),
         _ => Err(Refusal::BadRequest),
@@ -420,7 +431,7 @@ fn written(server: &mut MemServer, stream: &[u8], out: Vec<u8>) -> Result<Vec<u8
 /// A server that is asked by requests and by frames.
 #[derive(Drop)]
 pub struct Asked {
-    server: MemServer,
+    server: Box<MemServer>,
 }
 
 pub const ASKED: Table = (STILL, &CALLS);
