@@ -3,6 +3,7 @@
 mod kills;
 mod logs;
 mod memory;
+mod power;
 mod servers;
 mod stopping;
 

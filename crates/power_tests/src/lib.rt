@@ -12,6 +12,3 @@ pub use cached_log::CachedLogFile;
 pub use cached_mark::CachedMark;
 pub use fates::{Choice, Fate, Fates};
 pub use servers::{CachedDevices, CachedServer, open, serve};
-
-#[cfg(test)]
-mod tests;

@@ -1,7 +1,7 @@
 //! The script with a log, over devices that a kill cuts off at each of their calls: whole replies were written, and an
 //! open recovers the state after a prefix of the requests that contains each request replied to.
 
-use crate::tests::servers::{Devices, ON_REQUEST, Upkeep, reads, states};
+use crate::tests::servers::{Devices, ON_REQUEST, Upkeep, reads, serve, states};
 use crate::tests::stopping::Written;
 use cell_key::Refusal;
 use std::alloc::{AllocError, Global};
@@ -307,7 +307,7 @@ impl Trial {
         reader.most = cut.most;
         match devices.open(self.upkeep) {
             Ok(mut server) => {
-                let _ = server.serve(&mut reader, &mut writer, u64::MAX);
+                let _ = serve(&mut server, &mut reader, &mut writer);
             }
             Err(Refusal::Device) if devices.life.is_over() => {}
             Err(refusal) => return Err(refusal),
@@ -422,61 +422,6 @@ const CUTS: [Cut; 5] = [
     },
 ];
 
-/// The number of calls that the devices get with each cut, and in an open after the script, with the last call not made
-/// and made; or, as `Err`, the first call after which something is wrong.
-fn calls_of(alloc: Global, upkeep: Upkeep) -> Result<Vec<Result<u64, u64>>, Refusal> {
-    let script = Script::new(alloc, upkeep.merge.is_some())?;
-    let trial = Trial::new(alloc, upkeep, script)?;
-    let mut calls = Vec::new(alloc);
-    for cut in CUTS {
-        calls.push(trial.calls(cut)?)?;
-    }
-    calls.push(trial.open_calls(false)?)?;
-    calls.push(trial.open_calls(true)?)?;
-    Ok(calls)
-}
-
-/// The numbers of calls.
-type Calls = [Result<u64, u64>; 7];
-
-const ASKED_CALLS: Calls = [Ok(69), Ok(67), Ok(77), Ok(77), Ok(77), Ok(23), Ok(23)];
-
-const CHECKPOINT_CALLS: Calls = [
-    Ok(501),
-    Ok(500),
-    Ok(502),
-    Ok(502),
-    Ok(502),
-    Ok(101),
-    Ok(101),
-];
-
-const OWN_CALLS: Calls = [Ok(193), Ok(192), Ok(202), Ok(202), Ok(202), Ok(17), Ok(17)];
-
-#[test]
-fn a_server_is_killed(rt: HostRuntime) -> Result<(), Fail> {
-    let calls = calls_of(rt.alloc(), ASKED)?;
-    assert!(rt; calls.as_slice() == ASKED_CALLS.as_slice(), "{calls:?}");
-    Ok(())
-}
-
-#[test]
-fn a_server_that_makes_checkpoints_is_killed(rt: HostRuntime) -> Result<(), Fail> {
-    let calls = calls_of(rt.alloc(), CHECKPOINTS)?;
-    assert!(rt;
-        calls.as_slice() == CHECKPOINT_CALLS.as_slice(),
-        "{calls:?}"
-    );
-    Ok(())
-}
-
-#[test]
-fn a_server_that_merges_is_killed(rt: HostRuntime) -> Result<(), Fail> {
-    let calls = calls_of(rt.alloc(), BY_ITSELF)?;
-    assert!(rt; calls.as_slice() == OWN_CALLS.as_slice(), "{calls:?}");
-    Ok(())
-}
-
 /// How the sessions that begin are cut off: each request in a batch of its own, and all in one batch.
 const BEGIN_CUTS: [Cut; 4] = [
     Cut {
@@ -501,25 +446,113 @@ const BEGIN_CUTS: [Cut; 4] = [
     },
 ];
 
-/// The number of calls that the devices get while sessions begin, with each of these cuts; or, as `Err`, the first call
-/// after which something is wrong.
-fn begin_calls(alloc: Global) -> Result<Vec<Result<u64, u64>>, Refusal> {
-    let trial = Trial::new(alloc, ASKED, Script::of_begins(alloc)?)?;
+/// A script, its server, how it is cut off, whether opens after the script are cut off too, with the last call not made
+/// and made, and the numbers of calls that the devices get.
+#[derive(Clone, Copy)]
+struct Plan {
+    begins: bool,
+    upkeep: Upkeep,
+    cuts: &'static [Cut],
+    opens: bool,
+    calls: &'static [Result<u64, u64>],
+}
+
+/// While sessions begin the opening makes five calls: it reads the log, looks for a root twice, puts one and loads the
+/// mark. The checkpoint makes four: an append, a store of the mark, a put and a renewal. There is an append for each range
+/// of stamps or, in one batch, one before the checkpoint and one behind it.
+const PLANS: [Plan; 4] = [
+    Plan {
+        begins: false,
+        upkeep: ASKED,
+        cuts: &CUTS,
+        opens: true,
+        calls: &[Ok(69), Ok(67), Ok(77), Ok(77), Ok(77), Ok(23), Ok(23)],
+    },
+    Plan {
+        begins: false,
+        upkeep: CHECKPOINTS,
+        cuts: &CUTS,
+        opens: true,
+        calls: &[
+            Ok(501),
+            Ok(500),
+            Ok(502),
+            Ok(502),
+            Ok(502),
+            Ok(101),
+            Ok(101),
+        ],
+    },
+    Plan {
+        begins: false,
+        upkeep: BY_ITSELF,
+        cuts: &CUTS,
+        opens: true,
+        calls: &[Ok(193), Ok(192), Ok(202), Ok(202), Ok(202), Ok(17), Ok(17)],
+    },
+    Plan {
+        begins: true,
+        upkeep: ASKED,
+        cuts: &BEGIN_CUTS,
+        opens: false,
+        calls: &[Ok(12), Ok(12), Ok(11), Ok(11)],
+    },
+];
+
+/// The script of a plan, and what comes with it.
+fn trial_of(alloc: Global, plan: &Plan) -> Result<Trial, Refusal> {
+    let script = if plan.begins {
+        Script::of_begins(alloc)?
+    } else {
+        Script::new(alloc, plan.upkeep.merge.is_some())?
+    };
+    Trial::new(alloc, plan.upkeep, script)
+}
+
+/// The numbers of calls of a plan; or, as `Err`, the first call after which something is wrong.
+fn calls_of(alloc: Global, plan: &Plan) -> Result<Vec<Result<u64, u64>>, Refusal> {
+    let trial = trial_of(alloc, plan)?;
     let mut calls = Vec::new(alloc);
-    for cut in BEGIN_CUTS {
-        calls.push(trial.calls(cut)?)?;
+    for cut in plan.cuts {
+        calls.push(trial.calls(*cut)?)?;
+    }
+    if plan.opens {
+        calls.push(trial.open_calls(false)?)?;
+        calls.push(trial.open_calls(true)?)?;
     }
     Ok(calls)
 }
 
-/// The numbers of calls. The opening makes five: it reads the log, looks for a root twice, puts one and loads the mark.
-/// The checkpoint makes four: an append, a store of the mark, a put and a renewal. There is an append for each range of
-/// stamps or, in one batch, one before the checkpoint and one behind it.
-const BEGIN_CALLS: [Result<u64, u64>; 4] = [Ok(12), Ok(12), Ok(11), Ok(11)];
+/// The numbers of calls of a plan, if they are not the right ones.
+fn wrong_calls(alloc: Global, plan: &Plan) -> Result<Option<Vec<Result<u64, u64>>>, Refusal> {
+    let calls = calls_of(alloc, plan)?;
+    Ok((calls.as_slice() != plan.calls).then_some(calls))
+}
+
+#[test]
+fn a_server_is_killed(rt: HostRuntime) -> Result<(), Fail> {
+    let calls = wrong_calls(rt.alloc(), &PLANS[0])?;
+    assert!(rt; calls.is_none(), "{calls:?}");
+    Ok(())
+}
+
+#[test]
+fn a_server_that_makes_checkpoints_is_killed(rt: HostRuntime) -> Result<(), Fail> {
+    let calls = wrong_calls(rt.alloc(), &PLANS[1])?;
+    assert!(rt; calls.is_none(), "{calls:?}");
+    Ok(())
+}
+
+#[test]
+fn a_server_that_merges_is_killed(rt: HostRuntime) -> Result<(), Fail> {
+    let calls = wrong_calls(rt.alloc(), &PLANS[2])?;
+    assert!(rt; calls.is_none(), "{calls:?}");
+    Ok(())
+}
 
 #[test]
 fn a_server_is_killed_while_sessions_begin(rt: HostRuntime) -> Result<(), Fail> {
-    let calls = begin_calls(rt.alloc())?;
-    assert!(rt; calls.as_slice() == BEGIN_CALLS.as_slice(), "{calls:?}");
+    let calls = wrong_calls(rt.alloc(), &PLANS[3])?;
+    assert!(rt; calls.is_none(), "{calls:?}");
     Ok(())
 }

@@ -1,22 +1,17 @@
 //! Logs by their bytes: the logs that a server writes, and opens of logs that are cut short, garbled or have records
 //! that aren't edits.
 
-use crate::tests::FLUSH;
-use crate::tests::servers::{Devices, ON_REQUEST, StoppingServer, Upkeep, reads, states};
+use crate::tests::memory::logs::Logged as HandedOn;
+use crate::tests::servers::{Devices, ON_REQUEST, StoppingServer, Upkeep, reads, serve, states};
 use crate::tests::stopping::Written;
 use cell_key::Refusal;
-use commit_log::MemLog;
-use durable::DurableServer;
-use file_store::MemFiles;
-use oracle::MemMark;
-use server_loop::{Config, End, ServeFault, Server, end_status};
+use server_loop::{End, ServeFault, end_status};
 use std::alloc::Global;
 use std::num::NonZeroUsize;
 use std::test::Fail;
-use testing::FILE_LIMIT;
 use testing::frames::{push_frame, streams_of};
 use testing::rows::{Exchange, FIRST_CELL, Row, TRANSFER};
-use testing::streams::{Holding, Pieces};
+use testing::streams::Pieces;
 
 /// A new log, for any root.
 const NEW_LOG: &[u8] = b"TABLOG02\x01\x02\x03\x04\x05\x06\x07\x08\
@@ -80,7 +75,7 @@ fn log_after(alloc: Global, upkeep: Upkeep, most: usize, more: &[u8]) -> Result<
     let mut reader = Pieces::new(alloc, &requests)?;
     reader.most = most;
     let mut writer: Vec<u8> = Vec::new(alloc);
-    match server.serve(&mut reader, &mut writer, u64::MAX) {
+    match serve(&mut server, &mut reader, &mut writer) {
         Ok(End::Clean) => devices.log_bytes(),
         _ => Err(Refusal::Device),
     }
@@ -116,26 +111,6 @@ fn what_the_log_has(rt: HostRuntime) -> Result<(), Fail> {
     Ok(())
 }
 
-/// A server with a log in memory.
-type MemServer = DurableServer<Server<MemFiles, MemMark>, MemMark, MemLog>;
-
-/// A server opened over these devices.
-fn opened(
-    alloc: Global,
-    files: MemFiles,
-    marks: MemMark,
-    log: MemLog,
-) -> Result<MemServer, Refusal> {
-    let config = Config {
-        flush: FLUSH,
-        file_limit: FILE_LIMIT,
-    };
-    match DurableServer::open(alloc, files, marks, log, config) {
-        Ok(server) => Ok(server),
-        Err((refusal, _, _, _)) => Err(refusal),
-    }
-}
-
 /// A committed cell is read from another server over the same devices. Its session is gone.
 const READ_LATER: [Exchange; 3] = [
     // Begin: 1001
@@ -151,28 +126,13 @@ const READ_LATER: [Exchange; 3] = [
 
 const HANDED_ON: Row = (0, &[&READ_LATER]);
 
-/// Whether a server ends cleanly and writes the replies of a row.
-fn is_met(alloc: Global, server: &mut MemServer, row: &Row) -> Result<bool, Refusal> {
-    let (requests, replies) = streams_of(alloc, row)?;
-    let mut reader = requests.as_slice();
-    let mut writer = Holding::new(alloc);
-    let ended = server.serve(&mut reader, &mut writer, u64::MAX);
-    Ok(matches!(ended, Ok(End::Clean)) && writer.out == replies)
-}
-
 #[test]
 fn devices_are_handed_on(rt: HostRuntime) -> Result<(), Fail> {
-    let alloc = rt.alloc();
-    let mut server = opened(
-        alloc,
-        MemFiles::new(alloc),
-        MemMark::new(),
-        MemLog::new(alloc)?,
-    )?;
-    assert!(rt; is_met(alloc, &mut server, &FIRST_CELL)?);
-    let (files, marks, log) = server.into_devices();
-    let mut server = opened(alloc, files, marks, log)?;
-    assert!(rt; is_met(alloc, &mut server, &HANDED_ON)?);
+    let mut handed = HandedOn::new(rt.alloc())?;
+    for row in [&FIRST_CELL, &HANDED_ON] {
+        let (requests, replies) = streams_of(rt.alloc(), row)?;
+        assert!(rt; handed.written(rt.alloc(), &requests)? == replies);
+    }
     Ok(())
 }
 
@@ -209,7 +169,7 @@ fn ends_of(alloc: Global, log: &[u8]) -> Result<Vec<usize>, Refusal> {
 /// frames end, and the state after each frame.
 #[derive(Drop)]
 struct Logged {
-    devices: Devices,
+    devices: Box<Devices>,
     log: Vec<u8>,
     ends: Vec<usize>,
     states: Vec<Vec<u8>>,
@@ -263,7 +223,7 @@ fn serve_one(alloc: Global, server: &mut StoppingServer<'_>, body: &[u8]) -> Res
     push_frame(&mut frame, body)?;
     let mut reader = frame.as_slice();
     let mut writer: Vec<u8> = Vec::new(alloc);
-    let _ = server.serve(&mut reader, &mut writer, u64::MAX);
+    let _ = serve(server, &mut reader, &mut writer);
     Ok(())
 }
 
@@ -303,17 +263,6 @@ fn logged_states(
 /// cells and writes two commit records.
 const FRAMES: usize = 9;
 
-#[test]
-fn a_log_is_cut_at_each_byte(rt: HostRuntime) -> Result<(), Fail> {
-    let logged = Logged::new(rt.alloc())?;
-    assert!(rt; logged.ends.len() == FRAMES + 1 && logged.states.len() == FRAMES + 1);
-    for len in 0..=logged.log.len() {
-        let (log, _) = logged.log.split_at(len);
-        assert!(rt; logged.opens_to(log, logged.frames_to(len))?, "{len}");
-    }
-    Ok(())
-}
-
 /// The offsets of the store's number and of the first frame in a log. A log in memory may be of any store.
 const STORE_AT: usize = 8;
 
@@ -331,16 +280,38 @@ fn frames_without(logged: &Logged, at: usize) -> Option<usize> {
     }
 }
 
+impl Logged {
+    /// Whether the log cut at a place is opened to the right state.
+    fn is_right_to(&self, at: usize) -> Result<bool, Refusal> {
+        let (beginning, _) = self.log.split_at(at.min(self.log.len()));
+        self.opens_to(beginning, self.frames_to(at))
+    }
+
+    /// Whether the log whose byte at a place is garbled is opened to the right state.
+    fn is_right_garbled(&self, at: usize) -> Result<bool, Refusal> {
+        let mut log = self.log.clone()?;
+        if let Some(byte) = log.get_mut(at) {
+            *byte ^= 0x20;
+        }
+        self.opens_to(&log, frames_without(self, at))
+    }
+}
+
+#[test]
+fn a_log_is_cut_at_each_byte(rt: HostRuntime) -> Result<(), Fail> {
+    let logged = Logged::new(rt.alloc())?;
+    assert!(rt; logged.ends.len() == FRAMES + 1 && logged.states.len() == FRAMES + 1);
+    for at in 0..=logged.log.len() {
+        assert!(rt; logged.is_right_to(at)?, "{at}");
+    }
+    Ok(())
+}
+
 #[test]
 fn a_byte_of_a_log_is_garbled(rt: HostRuntime) -> Result<(), Fail> {
     let logged = Logged::new(rt.alloc())?;
     for at in 0..logged.log.len() {
-        let mut log = logged.log.clone()?;
-        if let Some(byte) = log.get_mut(at) {
-            *byte ^= 0x20;
-        }
-        let frames = frames_without(&logged, at);
-        assert!(rt; logged.opens_to(&log, frames)?, "{at}");
+        assert!(rt; logged.is_right_garbled(at)?, "{at}");
     }
     Ok(())
 }
@@ -408,20 +379,6 @@ fn is_refused(alloc: Global, log: &[u8], is_new: bool) -> Result<bool, Refusal> 
     Ok(refused == Err(Refusal::Damaged) && devices.replies(ON_REQUEST, b"")?.is_empty())
 }
 
-#[test]
-fn records_that_are_no_edits(rt: HostRuntime) -> Result<(), Fail> {
-    for log in NO_EDITS {
-        assert!(rt; is_refused(rt.alloc(), log, false)?, "{log:?}");
-    }
-    Ok(())
-}
-
-#[test]
-fn edits_without_a_root(rt: HostRuntime) -> Result<(), Fail> {
-    assert!(rt; is_refused(rt.alloc(), THREE_RECORDS, true)?);
-    Ok(())
-}
-
 /// Whether the devices open. `false` if they are refused as damaged.
 fn opens(devices: &Devices) -> Result<bool, Refusal> {
     match devices.replies(ON_REQUEST, b"") {
@@ -438,15 +395,6 @@ const THREE_MARKS: &[u8] = b"TABLOG02\x01\x02\x03\x04\x05\x06\x07\x08\
     \0\0\0\x11\xA2\x50\xD0\x62\0\0\0\0\0\0\0\x03\0\0\0\0\0\0\0\x07\xD0\
     \0\0\0\x11\x17\x7A\x1A\xAB\0\0\0\0\0\0\0\x04\0\0\0\0\0\0\0\0\x07";
 
-/// Numbers in the mark's store, and the reply to a Begin of a store whose log has these three marks: the first start
-/// above all of them.
-const STARTS: [(u32, &[u8]); 4] = [
-    (0, b"\0\0\0\x09\x81\0\0\0\0\0\0\x07\xD1"),
-    (1999, b"\0\0\0\x09\x81\0\0\0\0\0\0\x07\xD1"),
-    (2000, b"\0\0\0\x09\x81\0\0\0\0\0\0\x07\xD1"),
-    (2500, b"\0\0\0\x09\x81\0\0\0\0\0\0\x09\xC5"),
-];
-
 /// The frame of a Begin.
 const BEGIN: &[u8] = b"\0\0\0\x01\x01";
 
@@ -461,19 +409,6 @@ fn begun(alloc: Global, log: &[u8], mark: u32, is_new: bool) -> Result<Vec<u8>, 
     devices.replies(ON_REQUEST, BEGIN)
 }
 
-#[test]
-fn the_greatest_mark_counts(rt: HostRuntime) -> Result<(), Fail> {
-    for (mark, reply) in STARTS {
-        for is_new in [false, true] {
-            assert!(rt;
-                begun(rt.alloc(), THREE_MARKS, mark, is_new)?.as_slice() == reply,
-                "{mark} {is_new}"
-            );
-        }
-    }
-    Ok(())
-}
-
 /// Logs with a mark that is the greatest stamp, and one more than it.
 const GREATEST_MARK: &[u8] = b"TABLOG02\x01\x02\x03\x04\x05\x06\x07\x08\
     \0\0\0\x11\x41\xC1\x6C\xCA\0\0\0\0\0\0\0\x01\x02\0\0\0\0\0\0\0\0\
@@ -486,10 +421,41 @@ const TOO_GREAT_MARK: &[u8] = b"TABLOG02\x01\x02\x03\x04\x05\x06\x07\x08\
 /// The reply to a Begin without stamps: refused 18.
 const EXHAUSTED: &[u8] = b"\0\0\0\x02\xFF\x12";
 
+/// A log, the number in its mark's store, and the reply to a Begin of a store, opened before: the first start above all
+/// marks of the log and this number.
+const STARTS: [(&[u8], u32, &[u8]); 5] = [
+    (THREE_MARKS, 0, b"\0\0\0\x09\x81\0\0\0\0\0\0\x07\xD1"),
+    (THREE_MARKS, 1999, b"\0\0\0\x09\x81\0\0\0\0\0\0\x07\xD1"),
+    (THREE_MARKS, 2000, b"\0\0\0\x09\x81\0\0\0\0\0\0\x07\xD1"),
+    (THREE_MARKS, 2500, b"\0\0\0\x09\x81\0\0\0\0\0\0\x09\xC5"),
+    (GREATEST_MARK, 0, EXHAUSTED),
+];
+
+/// Whether a store, new or opened before, answers so to a Begin.
+fn starts(alloc: Global, start: &(&[u8], u32, &[u8]), is_new: bool) -> Result<bool, Refusal> {
+    Ok(begun(alloc, start.0, start.1, is_new)?.as_slice() == start.2)
+}
+
 #[test]
-fn marks_end_with_the_stamps(rt: HostRuntime) -> Result<(), Fail> {
-    assert!(rt; begun(rt.alloc(), GREATEST_MARK, 0, false)?.as_slice() == EXHAUSTED);
-    assert!(rt; is_refused(rt.alloc(), TOO_GREAT_MARK, false)?);
+fn the_greatest_mark_counts(rt: HostRuntime) -> Result<(), Fail> {
+    for start in &STARTS {
+        assert!(rt; starts(rt.alloc(), start, false)?, "{start:?}");
+        if start.0 == THREE_MARKS {
+            assert!(rt; starts(rt.alloc(), start, true)?, "{start:?}");
+        }
+    }
+    Ok(())
+}
+
+#[test]
+fn logs_that_are_refused(rt: HostRuntime) -> Result<(), Fail> {
+    for log in NO_EDITS {
+        assert!(rt; is_refused(rt.alloc(), log, false)?, "{log:?}");
+    }
+    // edits without a root, and a mark above all stamps
+    for (log, is_new) in [(THREE_RECORDS, true), (TOO_GREAT_MARK, false)] {
+        assert!(rt; is_refused(rt.alloc(), log, is_new)?, "{log:?}");
+    }
     Ok(())
 }
 
@@ -599,7 +565,7 @@ fn is_silent(server: &mut StoppingServer<'_>, writer: &mut Written<'_>) -> bool 
     let count = writer.bytes.len();
     // Begin
     let mut reader: &[u8] = b"\0\0\0\x01\x01";
-    let again = server.serve(&mut reader, writer, u64::MAX);
+    let again = serve(server, &mut reader, writer);
     matches!(again, Err(ServeFault::Log)) && writer.bytes.len() == count
 }
 
@@ -619,7 +585,7 @@ fn lost_at(alloc: Global, most: usize, at: u64) -> Result<Option<usize>, Refusal
         life: &devices.life,
         is_cut: false,
     };
-    let ended = server.serve(&mut reader, &mut writer, u64::MAX);
+    let ended = serve(&mut server, &mut reader, &mut writer);
     if !matches!(ended, Err(ServeFault::Log)) {
         return Ok(None);
     }

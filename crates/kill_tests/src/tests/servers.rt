@@ -7,9 +7,10 @@ use commit_log::{FileLog, LogFault, LogFile, MemFile, new_log};
 use durable::{DurableServer, ROOT_NAME};
 use file_store::{Files, MemFiles};
 use oracle::{MarkStore, MemMark};
-use server_loop::{Config, FlushLimits, MergePolicy, ServeFault, Server};
+use server_loop::{Config, End, FlushLimits, MergePolicy, ServeFault, Server};
 use std::alloc::{AllocError, Global};
 use std::cell::Cell;
+use std::io::{Read, Write};
 use testing::FILE_LIMIT;
 use testing::frames::push_frame;
 
@@ -36,6 +37,15 @@ pub const ON_REQUEST: Upkeep = Upkeep {
     checkpoint: None,
 };
 
+/// Serves a stream to its end.
+pub fn serve<I: Read, O: Write>(
+    server: &mut StoppingServer<'_>,
+    reader: &mut I,
+    writer: &mut O,
+) -> Result<End, ServeFault> {
+    server.serve(reader, writer, u64::MAX)
+}
+
 /// The number of a store, and the number of the first record of its log.
 const STORE: u64 = 0x0102_0304_0506_0708;
 
@@ -55,8 +65,8 @@ pub struct Devices {
 }
 
 impl Devices {
-    /// The devices of a new store.
-    pub fn new(alloc: Global) -> Result<Devices, Refusal> {
+    /// The devices of a new store. In their box they are dropped by one call.
+    pub fn new(alloc: Global) -> Result<Box<Devices>, Refusal> {
         let devices = Devices {
             alloc,
             files: Cell::new(Some(MemFiles::new(alloc))),
@@ -64,6 +74,7 @@ impl Devices {
             log: Cell::new(None),
             life: Life::new(),
         };
+        let devices = Box::new(alloc, devices)?;
         devices.set_new_log()?;
         Ok(devices)
     }
@@ -130,8 +141,8 @@ impl Devices {
         Ok(())
     }
 
-    /// A server opened over the devices.
-    pub fn open(&self, upkeep: Upkeep) -> Result<StoppingServer<'_>, Refusal> {
+    /// A server opened over the devices. In its box it is dropped by one call.
+    pub fn open(&self, upkeep: Upkeep) -> Result<Box<StoppingServer<'_>>, Refusal> {
         if upkeep.flush == 0 || upkeep.flush > 100_000 {
             return Err(Refusal::FileTooLarge);
         }
@@ -146,7 +157,7 @@ impl Devices {
             file_limit: FILE_LIMIT,
         };
         let mut server = match DurableServer::open(self.alloc, files, marks, log, config) {
-            Ok(server) => server,
+            Ok(server) => Box::new(self.alloc, server)?,
             Err((refusal, _, _, _)) => return Err(refusal),
         };
         if let Some(most) = upkeep.merge {
@@ -163,7 +174,7 @@ impl Devices {
         let mut server = self.open(upkeep)?;
         let mut reader = stream;
         let mut written = Vec::new(self.alloc);
-        match server.serve(&mut reader, &mut written, u64::MAX) {
+        match serve(&mut server, &mut reader, &mut written) {
             Ok(_) => Ok(written),
             Err(ServeFault::NoMemory) => Err(Refusal::NoMemory),
             Err(_) => Err(Refusal::Device),

@@ -52,11 +52,6 @@ impl Life {
         self.makes_last.set(makes_last);
     }
 
-    /// How many calls were made.
-    pub fn calls(&self) -> u64 {
-        self.calls.get()
-    }
-
     /// Whether the kill has come.
     pub fn is_over(&self) -> bool {
         self.calls.get() >= self.ends_at.get()

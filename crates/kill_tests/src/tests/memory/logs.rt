@@ -80,7 +80,7 @@ pub struct Logged {
 
 impl Logged {
     /// The devices of a new store.
-    fn new(alloc: Global) -> Result<Logged, Refusal> {
+    pub fn new(alloc: Global) -> Result<Logged, Refusal> {
         let log = MemLog::new(alloc)?;
         Ok(Logged {
             devices: Some((MemFiles::new(alloc), MemMark::new(), log)),
@@ -106,7 +106,7 @@ impl Logged {
     }
 
     /// The replies to a stream of a server over the devices.
-    fn written(&mut self, alloc: Global, stream: &[u8]) -> Result<Vec<u8>, Refusal> {
+    pub fn written(&mut self, alloc: Global, stream: &[u8]) -> Result<Vec<u8>, Refusal> {
         let mut server = self.open(alloc)?;
         let mut stream = stream;
         let mut out = Vec::new(alloc);

@@ -1,13 +1,12 @@
 //! Servers of which a device's call fails, and that are then killed or lose power: each answered commit is there.
 
-use crate::cached_files::CachedFiles;
-use crate::cached_log::CachedLogFile;
-use crate::cached_mark::CachedMark;
-use crate::fates::{Choice, Fate, Fates};
-use crate::servers::{CachedDevices, open, serve};
+use crate::tests::FLUSH;
 use cell_key::Refusal;
 use commit_log::new_log;
-use server_loop::{Config, FlushLimits};
+use power_tests::{
+    CachedDevices, CachedFiles, CachedLogFile, CachedMark, Choice, Fate, Fates, open, serve,
+};
+use server_loop::Config;
 use std::alloc::{AllocError, Global};
 use std::test::Fail;
 use testing::FILE_LIMIT;
@@ -30,15 +29,35 @@ const FIRST: u64 = 1;
 
 /// The limits of a server.
 const CONFIG: Config = Config {
-    flush: FlushLimits {
-        entries: 10_000,
-        bytes: None,
-    },
+    flush: FLUSH,
     file_limit: FILE_LIMIT,
 };
 
-/// How many sessions commit.
-const SESSIONS: u64 = 4;
+/// The requests: each of four sessions begins, sets the cell, and holds, stamps and commits it. There are two
+/// checkpoints, after the first and the third one.
+const REQUESTS: &[u8] = b"\
+    \0\0\0\x01\x01\
+    \0\0\0\x18\x03\0\0\0\0\0\0\0\x01\0\0\0\x01r\0\0\0\x01c\0\0\0\x01v\
+    \0\0\0\x09\x04\0\0\0\0\0\0\0\x01\
+    \0\0\0\x09\x04\0\0\0\0\0\0\0\x01\
+    \0\0\0\x09\x04\0\0\0\0\0\0\0\x01\
+    \0\0\0\x01\x12\
+    \0\0\0\x01\x01\
+    \0\0\0\x18\x03\0\0\0\0\0\0\0\x03\0\0\0\x01r\0\0\0\x01c\0\0\0\x01v\
+    \0\0\0\x09\x04\0\0\0\0\0\0\0\x03\
+    \0\0\0\x09\x04\0\0\0\0\0\0\0\x03\
+    \0\0\0\x09\x04\0\0\0\0\0\0\0\x03\
+    \0\0\0\x01\x01\
+    \0\0\0\x18\x03\0\0\0\0\0\0\0\x05\0\0\0\x01r\0\0\0\x01c\0\0\0\x01v\
+    \0\0\0\x09\x04\0\0\0\0\0\0\0\x05\
+    \0\0\0\x09\x04\0\0\0\0\0\0\0\x05\
+    \0\0\0\x09\x04\0\0\0\0\0\0\0\x05\
+    \0\0\0\x01\x12\
+    \0\0\0\x01\x01\
+    \0\0\0\x18\x03\0\0\0\0\0\0\0\x07\0\0\0\x01r\0\0\0\x01c\0\0\0\x01v\
+    \0\0\0\x09\x04\0\0\0\0\0\0\0\x07\
+    \0\0\0\x09\x04\0\0\0\0\0\0\0\x07\
+    \0\0\0\x09\x04\0\0\0\0\0\0\0\x07";
 
 /// The most bytes that a read gives: one or two requests.
 const MOST: usize = 30;
@@ -47,7 +66,7 @@ const MOST: usize = 30;
 const MOST_CALLS: usize = 40;
 
 /// A device.
-#[derive(Clone, Copy, Debug, PartialEq, Eq)]
+#[derive(Clone, Copy, PartialEq)]
 enum Device {
     Files,
     Mark,
@@ -55,7 +74,7 @@ enum Device {
 }
 
 /// A device's call that fails, after so many others. If `stays`, all later ones fail too, and do nothing.
-#[derive(Clone, Copy, Debug)]
+#[derive(Clone, Copy)]
 struct Failure {
     device: Device,
     after: usize,
@@ -64,7 +83,7 @@ struct Failure {
 }
 
 /// What follows: maybe an opening after a kill whose call of this device fails, and then a loss of power or a kill.
-#[derive(Clone, Copy, Debug)]
+#[derive(Clone, Copy)]
 struct Ending {
     reopens: Option<(Device, Fate)>,
     loses_power: bool,
@@ -164,44 +183,6 @@ fn set_fates(
     Ok(())
 }
 
-/// A request of a session: the operation, its start, and what follows.
-fn push_request(
-    alloc: Global,
-    stream: &mut Vec<u8>,
-    operation: u8,
-    start: u64,
-    rest: &[u8],
-) -> Result<(), AllocError> {
-    let mut body = Vec::new(alloc);
-    body.push(operation)?;
-    body.extend_from_slice(&start.to_be_bytes())?;
-    body.extend_from_slice(rest)?;
-    push_frame(stream, &body)
-}
-
-/// The requests: each session sets the cell and commits. There are two checkpoints, after the first and the third one.
-fn requests(alloc: Global) -> Result<Vec<u8>, AllocError> {
-    let mut stream = Vec::new(alloc);
-    for session in 0..SESSIONS {
-        let start = session * 2 + 1;
-        push_frame(&mut stream, b"\x01")?;
-        push_request(
-            alloc,
-            &mut stream,
-            3,
-            start,
-            b"\0\0\0\x01r\0\0\0\x01c\0\0\0\x01v",
-        )?;
-        push_request(alloc, &mut stream, 4, start, b"")?;
-        push_request(alloc, &mut stream, 4, start, b"")?;
-        push_request(alloc, &mut stream, 4, start, b"")?;
-        if session % 2 == 0 {
-            push_frame(&mut stream, b"\x12")?;
-        }
-    }
-    Ok(stream)
-}
-
 /// Raw reads of the records of all commits that the replies answer.
 fn reads(alloc: Global, replies: &[u8]) -> Result<Vec<u8>, AllocError> {
     let mut stream = Vec::new(alloc);
@@ -295,18 +276,17 @@ const NO_FAILURE: Failure = Failure {
     stays: false,
 };
 
-/// How many commits were answered, if all are there after the failure and the ending.
-fn commits(alloc: Global, failure: &Failure, ending: &Ending) -> Result<Option<usize>, Refusal> {
+/// Whether all commits that were answered are there after the failure and the ending.
+fn are_kept(alloc: Global, failure: &Failure, ending: &Ending) -> Result<bool, Refusal> {
     let devices = new_devices(alloc, failure)?;
-    let (written, devices) = replies(alloc, devices, &requests(alloc)?)?;
+    let (written, devices) = replies(alloc, devices, REQUESTS)?;
     let asks = reads(alloc, &written.unwrap_or(Vec::new(alloc)))?;
     let devices = ended(alloc, devices, ending)?;
     let (found, _) = replies(alloc, devices, &asks)?;
     let Some(found) = found else {
-        return Ok(None);
+        return Ok(false);
     };
-    let count = asks.len() / ASK;
-    Ok((are_found(&found) && found.len() == count * FOUND).then_some(count))
+    Ok(are_found(&found) && found.len() == asks.len() / ASK * FOUND)
 }
 
 /// The length of a raw read's frame, and of the reply with a record.
@@ -317,30 +297,33 @@ const FOUND: usize = 27;
 /// How many trials are made with a device.
 const MOST_TRIALS: usize = 140;
 
-/// The sum of the commits answered in all trials with one device; as `Err` the first trial after which one is lost.
-fn trials(alloc: Global, device: Device) -> Result<Result<usize, (Failure, Ending)>, Refusal> {
-    let mut sum = 0usize;
+/// A trial's call that fails, and what follows.
+fn trial_of(device: Device, number: usize) -> (Failure, Ending) {
+    let failure = Failure {
+        device,
+        after: number / 4,
+        fate: FATES[number % 5],
+        stays: number % 2 == 1,
+    };
+    (failure, ENDINGS[number / 5 % 5])
+}
+
+/// The number of the first trial with a device after which an answered commit is lost.
+fn first_lost(alloc: Global, device: Device) -> Result<Option<usize>, Refusal> {
     for number in 0..MOST_TRIALS {
-        let failure = Failure {
-            device,
-            after: number / 4,
-            fate: FATES[number % 5],
-            stays: number % 2 == 1,
-        };
-        let ending = ENDINGS[number / 5 % 5];
-        match commits(alloc, &failure, &ending)? {
-            Some(count) => sum = sum.saturating_add(count),
-            None => return Ok(Err((failure, ending))),
+        let (failure, ending) = trial_of(device, number);
+        if !are_kept(alloc, &failure, &ending)? {
+            return Ok(Some(number));
         }
     }
-    Ok(Ok(sum))
+    Ok(None)
 }
 
 #[test]
 fn a_call_of_a_device_fails(rt: HostRuntime) -> Result<(), Fail> {
     for device in DEVICES {
-        let sum = trials(rt.alloc(), device)?;
-        assert!(rt; sum.is_ok(), "{sum:?}");
+        let lost = first_lost(rt.alloc(), device)?;
+        assert!(rt; lost.is_none(), "{lost:?}");
     }
     Ok(())
 }
