@@ -98,11 +98,11 @@ class Clients(unittest.TestCase):
     def test_the_limits_of_a_client(self) -> None:
         begins = [bytes.fromhex("00000001 01")] * 65 + [bytes.fromhex("00000002 01")]
         _, replies = run(["--clients"], begins)
-        refused = bytes.fromhex("00000001 FF 07")
-        self.assertEqual([reply == refused for reply in replies], [False] * 64 + [True, False])
+        refused = bytes.fromhex("FF 07")
+        self.assertEqual([reply[4:] == refused for reply in replies], [False] * 64 + [True, False])
         collects = [bytes.fromhex("00000001 08")] * 5 + [bytes.fromhex("00000002 08")]
         _, replies = run(["--clients"], collects)
-        self.assertEqual([reply == refused for reply in replies], [False] * 4 + [True, False])
+        self.assertEqual([reply[4:] == refused for reply in replies], [False] * 4 + [True, False])
 
     def test_the_limit_of_cleaners(self) -> None:
         """Client 1 opens a cleaner at each of 65 locks of client 2, and client 3 one more. At its limit also a cell
