@@ -171,6 +171,14 @@ def file_rate(folder: Path, count: int, seconds: float) -> float:
         return rate(add, count, seconds)
 
 
+def built() -> str:
+    """The program that scripts/tabletd runs, built if it isn't yet."""
+    subprocess.run([TOP / "scripts" / "tabletd"], stdin=subprocess.DEVNULL, stderr=subprocess.DEVNULL, check=True)
+    out = TOP / "crates" / "tabletd" / "out"
+    found = [os.environ.get("TABLETD", ""), str(out / "tabletd"), str(out / "unproved" / "tabletd")]
+    return next(program for program in found if program and os.access(program, os.X_OK))
+
+
 def compiled(name: str, place: Path, *words: str) -> str | None:
     """A program of this folder, or None if a compiler is missing."""
     compiler = shutil.which("c++")
