@@ -3,6 +3,7 @@
 // peer_upkeep major COUNT FOLDER: opens a store of COUNT rows and goes on so until all of it is compacted.
 // The store is LevelDB's or, with ROCKSDB, RocksDB's. As many threads write as commits wait for tabletd; another one reads. Each
 // prints figures, a name and a number a line, in seconds and bytes.
+#include <algorithm>
 #include <atomic>
 #include <chrono>
 #include <cstdlib>
@@ -93,12 +94,13 @@ class Work {
     commits_.Join(waits);
   }
 
-  // Reads rows of the first half, which no thread writes any more.
+  // Reads rows of the first half, which no thread writes any more. A Get that is due during another waits for it.
   void Read() {
     Due due;
     for (std::string value; !is_stopped_; std::this_thread::sleep_for(kPause)) {
+      const double began = Seconds();
       while (due.IsDue(done_ / 2) && !is_stopped_) {
-        const double since = Seconds();
+        const double since = std::max(began, due.last());
         Check(db_->Get(peer::ReadOptions(), RowOf(due.Next(done_ / 2)), &value).ok(), "a row isn't found");
         gets_.Add(Seconds() - since);
       }

@@ -109,6 +109,9 @@ class Due {
     return true;
   }
 
+  // When the last one was due.
+  double last() const { return next_ - 1 / kGetsPerSecond; }
+
   // The number of a row below this one that is read next.
   uint64_t Next(uint64_t rows) { return DrawnOf(count_++) % rows; }
 
