@@ -94,14 +94,14 @@ class Work {
     commits_.Join(waits);
   }
 
-  // Reads rows of the first half, which no thread writes any more. A Get that is due during another waits for it.
+  // Reads rows, which no thread writes any more. A Get that is due during another waits for it.
   void Read() {
     Due due;
     for (std::string value; !is_stopped_; std::this_thread::sleep_for(kPause)) {
       const double began = Seconds();
-      while (due.IsDue(done_ / 2) && !is_stopped_) {
+      while (due.IsDue(done_) && !is_stopped_) {
         const double since = std::max(began, due.last());
-        Check(db_->Get(peer::ReadOptions(), RowOf(due.Next(done_ / 2)), &value).ok(), "a row isn't found");
+        Check(db_->Get(peer::ReadOptions(), due.Next(done_), &value).ok(), "a row isn't found");
         gets_.Add(Seconds() - since);
       }
     }
@@ -117,7 +117,7 @@ class Work {
 };
 
 void Write(peer::DB* db, const std::string& folder, uint64_t count, uint64_t cells) {
-  Observer observer(folder, count);
+  Observer observer(folder);
   const double began = Seconds(), used = ProcessorSeconds(getpid());
   Work work(db, 0, count, cells);
   while (work.done() < count) {
@@ -133,14 +133,13 @@ void Write(peer::DB* db, const std::string& folder, uint64_t count, uint64_t cel
 }
 
 void Compact(peer::DB* db, const std::string& folder, uint64_t count) {
-  Observer observer(folder, count);
+  Observer observer(folder);
   ForgetPeak(getpid());
-  const double began = Seconds(), used = ProcessorSeconds(getpid()), open = MemoryBytes(getpid());
+  const double began = Seconds(), open = MemoryBytes(getpid());
   Work work(db, count, UINT64_MAX, 0);
   CompactAll(db);
   PrintFigure("seconds", Seconds() - began);
   work.Stop();
-  PrintFigure("processor", ProcessorSeconds(getpid()) - used);
   PrintFigure("memory_open", open);
   PrintFigure("memory_more", PeakBytes(getpid()) - open);
   observer.Print();

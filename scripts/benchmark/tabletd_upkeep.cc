@@ -42,7 +42,7 @@ class Server {
   pid_t process() const { return program_.child; }
   uint64_t refused() const { return refused_; }
 
-  // Sends a request whose reply is taken so, unless it is refused.
+  // Sends a request, and has its reply taken so.
   void Ask(const std::string& body, std::function<void(std::string_view)> take) {
     program_.unsent += Field(body);
     takes_.push_back(std::move(take));
@@ -111,10 +111,10 @@ class Gets {
  public:
   explicit Gets(Server* server) : server_(server) {}
 
-  // Sends what is due, of the rows of numbers below this one.
+  // Sends what is due, where there are so many rows.
   void Send(uint64_t rows) {
     while (due_.IsDue(rows)) {
-      const std::string cell = Field(RowOf(due_.Next(rows))) + Field("c");
+      const std::string cell = Field(due_.Next(rows)) + Field("c");
       const std::string body = "\x33" + kNoStart + std::string("\0\0\0\0\1", 5) + cell;
       server_->Ask(body, [this, since = Seconds()](std::string_view reply) {
         Check(reply.size() > kAnswerAt && reply[kAnswerAt] == kValue, "a row isn't found");
@@ -191,7 +191,7 @@ void Write(Server* server, const std::string& folder, uint64_t count, uint64_t c
   Commits commits(server, 0, cells);
   Gets gets(server);
   Collection collection(server);
-  Observer observer(folder, count);
+  Observer observer(folder);
   const double began = Seconds(), used = ProcessorSeconds(server->process());
   while (commits.done() < count) {
     commits.Send(count);
@@ -214,9 +214,9 @@ void Write(Server* server, const std::string& folder, uint64_t count, uint64_t c
 void Compact(Server* server, const std::string& folder, uint64_t count) {
   Commits commits(server, count, 0);
   Gets gets(server);
-  Observer observer(folder, count);
+  Observer observer(folder);
   ForgetPeak(server->process());
-  const double began = Seconds(), used = ProcessorSeconds(server->process()), open = MemoryBytes(server->process());
+  const double began = Seconds(), open = MemoryBytes(server->process());
   bool is_done = false;
   server->Ask(kMajor, [&is_done](std::string_view) { is_done = true; });
   while (!is_done) {
@@ -227,7 +227,6 @@ void Compact(Server* server, const std::string& folder, uint64_t count) {
   }
   PrintFigure("seconds", Seconds() - began);
   server->Drain();
-  PrintFigure("processor", ProcessorSeconds(server->process()) - used);
   PrintFigure("memory_open", open);
   PrintFigure("memory_more", PeakBytes(server->process()) - open);
   observer.Print();

@@ -17,7 +17,7 @@
 // How many commits wait for an answer at most.
 constexpr int kAhead = 16;
 
-// The Gets of a second beside a load, once there are so many rows to read.
+// The Gets of a second beside a load, once there are so many rows.
 constexpr double kGetsPerSecond = 2000;
 constexpr uint64_t kRowsBeforeGets = 1000;
 
@@ -98,7 +98,7 @@ class Waits {
   double longest_ = 0;
 };
 
-// When Gets are due: so many a second, once there are rows enough.
+// Which Gets are due, and when: so many a second, once there are rows enough, of the first half of them.
 class Due {
  public:
   bool IsDue(uint64_t rows) {
@@ -112,8 +112,8 @@ class Due {
   // When the last one was due.
   double last() const { return next_ - 1 / kGetsPerSecond; }
 
-  // The number of a row below this one that is read next.
-  uint64_t Next(uint64_t rows) { return DrawnOf(count_++) % rows; }
+  // The row that is read next.
+  std::string Next(uint64_t rows) { return RowOf(DrawnOf(count_++) % (rows / 2)); }
 
  private:
   double next_ = Seconds();
@@ -156,10 +156,10 @@ inline double FolderBytes(const std::string& folder) {
   return bytes;
 }
 
-// Looks at a folder now and then, and says on the standard error how far the work is.
+// Looks at a folder now and then, and says on the standard error how many commits are done.
 class Observer {
  public:
-  Observer(const std::string& folder, uint64_t count) : folder_(folder), count_(count) {}
+  explicit Observer(const std::string& folder) : folder_(folder) {}
 
   void Look(uint64_t done) {
     const double now = Seconds();
@@ -168,8 +168,7 @@ class Observer {
       look_ = now + kSecondsOfLook;
     }
     if (now >= line_) {
-      const auto whole = [](uint64_t number) { return static_cast<unsigned long long>(number); };
-      std::fprintf(stderr, "  %llu of %llu\n", whole(done), whole(count_));
+      std::fprintf(stderr, "  %llu commits\n", static_cast<unsigned long long>(done));
       line_ = now + kSecondsOfLine;
     }
   }
@@ -183,6 +182,5 @@ class Observer {
 
  private:
   std::string folder_;
-  uint64_t count_;
   double look_ = 0, line_ = Seconds() + kSecondsOfLine, largest_ = 0;
 };
