@@ -131,16 +131,16 @@ class Gets {
   Waits waits_;
 };
 
-// A collector of old versions: after so many commits, or after as many as the one before had visits.
+// Collectors of old versions: one begins so many commits after the end of the one before, or as many as that one had visits.
 class Collection {
  public:
   explicit Collection(Server* server) : server_(server) {}
 
   // Begins, if it is time.
   void Begin(uint64_t commits) {
+    if (is_open_) last_ = commits;
     if (is_open_ || commits < last_ + due_) return;
     is_open_ = true;
-    last_ = commits;
     steps_ = 0;
     server_->Ask(kCollectBegin, [this](std::string_view reply) {
       if (reply[0] == kRefused) {
