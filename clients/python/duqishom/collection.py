@@ -7,17 +7,13 @@ from typing import Any
 
 from duqishom.answers import Committed
 from duqishom.connection import RequestTimedOut
-from duqishom.plans import Plan, StorePlans, Trip
+from duqishom.plans import FEW_VISITS, Plan, StorePlans, Trip
 from duqishom.program import ProgramEnded
 from duqishom.refusals import Refused
 from duqishom.several import CommitDone
 
 # The commits after which a store of its own collects for the first time.
 COMMITS = 10_000
-
-# The visits of a trip: few, so that a commit behind which there is one takes not much longer. With a log the program makes
-# no more for a request.
-VISITS = 4
 
 
 class OwnCollection:
@@ -48,11 +44,11 @@ class OwnCollection:
         try:
             if self._plan is None or self._trip is None:
                 # The first trip only opens a collector
-                self._commits, self._visits = 0, -VISITS
-                self._plan = self._plans.collect(VISITS)
+                self._commits, self._visits = 0, -FEW_VISITS
+                self._plan = self._plans.collect(FEW_VISITS)
                 self._trip = next(self._plan)
             self._trip = self._plan.send(take(self._trip))
-            self._visits += VISITS
+            self._visits += FEW_VISITS
         except StopIteration:
             self._plan, self._due = None, max(self._after, self._visits)
         except (Refused, ProgramEnded, RequestTimedOut):

@@ -62,8 +62,9 @@ LOG.addHandler(logging.NullHandler())
 MOST_STAMP = 9_223_372_036_854_775_807
 MOST_TABLETS = 1024
 
-# With a log a collector makes at most so many visits for a request.
-LOGGED_VISITS = 4
+# The visits of a collector in one request: few, so that others wait for some milliseconds. With a log the program makes no
+# more.
+FEW_VISITS = 4
 
 # The longest pause between two attempts, in seconds.
 LONGEST_PAUSE = 1.0
@@ -467,7 +468,7 @@ class StorePlans:
         while (done := (yield from self._collect_steps(steps))) != Collected():
             if isinstance(done, Blocked):
                 yield from self.clean(done.row, done.family)
-            steps = [CollectStep(collector.number, min(visits, LOGGED_VISITS))] * -(-visits // LOGGED_VISITS)
+            steps = [CollectStep(collector.number, min(visits, FEW_VISITS))] * -(-visits // FEW_VISITS)
         return collector.floor
 
     def _collect_steps(self, steps: list[CollectStep]) -> Plan[Collection]:

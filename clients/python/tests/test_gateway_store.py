@@ -7,6 +7,7 @@ import subprocess
 import sys
 import threading
 import unittest
+from pathlib import Path
 
 from duqishom import (
     Committed,
@@ -23,6 +24,7 @@ from duqishom import (
     UnknownSession,
     Value,
 )
+from duqishom.frames import whole_frames
 from duqishom.protocol import Reported, Status
 from tests.gateways import PACKAGE, Gateway, folder_of, stand_in, until
 
@@ -67,7 +69,8 @@ class Stores(unittest.TestCase):
 
     def test_old_versions_go_by_themselves(self) -> None:
         """After so many commits, and again after as many more: all but those that a session may read."""
-        gateway = Gateway(self, ["--collect", "20"])
+        place = folder_of(self)
+        gateway = Gateway(self, ["--collect", "20", "--record", place])
         store = self.store(gateway)
 
         def put(count: int) -> list[int]:
@@ -93,6 +96,12 @@ class Stores(unittest.TestCase):
         newest = put(20)[-1]
         self.assertTrue(until(lambda: not is_there(later[0])))
         self.assertTrue(is_there(newest))
+        store.close()
+        self.assertEqual(gateway.stop(), 0)
+        # Others wait for four visits at most
+        bodies: list[bytes] = []
+        whole_frames((Path(place) / "requests").read_bytes(), bodies)
+        self.assertEqual({body[13:] for body in bodies if body[4:5] == b"\x09"}, {b"\0\0\0\4"})
 
     def test_old_versions_stay(self) -> None:
         """With 0."""
