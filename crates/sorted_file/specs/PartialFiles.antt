@@ -21,6 +21,10 @@ limit_of file = file.builder.opening.size
 abbrev pub next_of : {W : Type 0} → PartialFile W → List ℕ
 next_of file = file.next.items
 
+-- the entries that it has so far
+abbrev pub entries_of : {W : Type 0} → PartialFile W → List Entry
+entries_of file = built file.builder
+
 -- the entries whose texts are below this one
 abbrev pub entries_below : List ℕ → List Entry → List Entry
 entries_below name es = filter (λ entry. is_lt (byte_cmp entry.0 name)) es

@@ -115,3 +115,12 @@ abbrev pub IsEndRefusal : Refusal → Type 0
 IsEndRefusal refused.BadCount = Unit {0}
 IsEndRefusal refused.FileTooLarge = Unit {0}
 IsEndRefusal refusal = IsFaultRefusal refusal
+
+-- ---- a law
+
+-- Open files with the same names mean the same entries together.
+abbrev pub RunsAlike : Type 0
+RunsAlike =
+    (range : RowRange) (m : Contents) (run other : List SortedFile)
+    → AllByRecursion (IsOpen m) run → AllByRecursion (IsOpen m) other
+    → map name_of run ≡ map name_of other → shown_of range m run ≡ shown_of range m other

@@ -1,6 +1,7 @@
 //! Laws of tablets. Each is the contract of a function that does nothing.
 
 ghost use Rattle.tablet.specs.MergePolicies.{FewLevels, StayInLevels};
+ghost use Rattle.tablet.specs.RunMerges.{RunsAlike};
 ghost use Rattle.tablet.specs.Laws.{StaysInRange, ShowsItsLists, OthersStay, UnnamedMayGo, SameCells, FilesAreThere, EditsShow};
 
 use sorted_file::{one_listing, open_is_there, stays_open};
@@ -33,6 +34,13 @@ pub fn unnamed_may_go()
 /// Tablets with the same range, the same memtable and the same file names have the same cells.
 pub fn same_cells()
     ensures { SameCells }
+{
+    one_listing();
+}
+
+/// Open files with the same names mean the same entries together.
+pub fn runs_alike()
+    ensures { RunsAlike }
 {
     one_listing();
 }

@@ -19,7 +19,7 @@ mod tablet;
 
 pub use compactions::Compaction;
 pub use laws::{
-    edits_show, few_levels, files_are_there, others_stay, same_cells, shows_its_lists,
+    edits_show, few_levels, files_are_there, others_stay, runs_alike, same_cells, shows_its_lists,
     stay_in_levels, stays_in_range, unnamed_may_go,
 };
 pub use memtable::Prepared;

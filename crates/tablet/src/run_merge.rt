@@ -45,6 +45,13 @@ impl<W: Drop> RunMerge<W> {
     {
         self.file.give_up(files);
     }
+
+    /// The names of the files that are merged, the newest first. Allocates nothing.
+    pub fn sources(&self) -> &[u64]
+        ensures { result.now ≡ sources_of self.now }
+    {
+        &self.names
+    }
 }
 
 /// The names of files. Answers `NoMemory` if there is no memory.
