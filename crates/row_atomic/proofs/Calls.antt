@@ -8,16 +8,18 @@ use Rattle.tablet.specs.Views.{IsSameTablet}
 use Rattle.tablet.specs.declared.tablet.Tablet.{Tablet}
 use Rattle.rows.specs.Calls.{Applies, OnlyReads, StaysReadable, View}
 use Rattle.row_atomic.specs.Seen.{seen_of}
-use Rattle.row_atomic.specs.Clusters.{ClusterState, InOrder, IsReadable, Overfills, cells_in}
+use Rattle.row_atomic.specs.Changes.{Holds}
+use Rattle.row_atomic.specs.Clusters.{ClusterState, IsReadable, Overfills, cells_in}
 use Rattle.rows.proofs.Calls.{reads_none}
-use Rattle.row_atomic.proofs.RowAnswers.{read_kept, read_still}
+use Rattle.row_atomic.proofs.RowAnswers.{read_kept, read_still, still_in_order}
 use Rattle.row_atomic.proofs.CompactionRoom.{room_same}
+use Rattle.row_atomic.proofs.MergeStates.{told_still}
 use Rattle.row_atomic.proofs.PlacedTablets.{set_same}
 use Rattle.row_atomic.proofs.Readable.{read_stays, readable_set}
 
 module _ {F : Type 0} (contents : F → Option Contents) (state : ClusterState F) where
   abbrev IsOrdered : ClusterState F → Type 0
-  IsOrdered cluster = InOrder (contents cluster.files) cluster.next_name cluster.tablets
+  IsOrdered cluster = Holds contents cluster
 
   abbrev cells_shown : ClusterState F → Cells
   cells_shown cluster = cells_in (contents cluster.files) cluster.tablets
@@ -39,7 +41,10 @@ module _ {F : Type 0} (contents : F → Option Contents) (state : ClusterState F
   pub tablet_read : (i : ℕ) (t u : Tablet) (files : F) → slice_get state.tablets i ≡ Some t → IsSameTablet (contents state.files) t u → contents files ≡ contents state.files
       → OnlyReads shown state (record state { files = files; tablets = set state.tablets i u })
   tablet_read i t u files there stays same = record {
-    still = read_still (contents state.files) (contents files) state.next_name state.tablets i t u there stays same;
+    still = λ held. (
+      read_still (contents state.files) (contents files) state.next_name state.tablets i t u there stays same held.0,
+      told_still (contents state.files) (contents files) state.file_limit state.next_name state.merge same held.1,
+    );
     readable = λ row whole. subst (λ (o : Option Contents). IsReadable o state.places (set state.tablets i u) row) (sym same)
         (readable_set (contents state.files) state.places state.tablets i t u there (read_stays (contents state.files) t u stays) row whole);
     kept = read_kept (contents state.files) (contents files) state.next_name state.tablets i t u there stays same;
@@ -50,7 +55,10 @@ module _ {F : Type 0} (contents : F → Option Contents) (state : ClusterState F
   -- files with the same contents
   pub files_read : (files : F) → contents files ≡ contents state.files → OnlyReads shown state (record state { files = files })
   files_read files same = record {
-    still = subst (λ (o : Option Contents). InOrder o state.next_name state.tablets) (sym same);
+    still = λ held. (
+      still_in_order (contents state.files) (contents files) state.next_name state.tablets same held.0,
+      told_still (contents state.files) (contents files) state.file_limit state.next_name state.merge same held.1,
+    );
     readable = λ row whole. subst (λ (o : Option Contents). IsReadable o state.places state.tablets row) (sym same) whole;
     kept = ap (λ (o : Option Contents). cells_in o state.tablets) same;
     room = λ row later full. full;

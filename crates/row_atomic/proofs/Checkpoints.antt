@@ -6,6 +6,7 @@ use Rattle.cell_key.specs.declared.refusals.Refusal.{Refusal}
 use Rattle.cell_key.specs.declared.refusals.Refusal.TheVariants as refused
 use Rattle.file_store.specs.Store.{Contents, KeepsOthers}
 use Rattle.metadata_table.specs.Table.{IsTable}
+use Rattle.sorted_file.specs.File.{StaysOpen}
 use Rattle.tablet.specs.Laws.{UnnamedMayGo}
 use Rattle.row_atomic.specs.Changes.{Holds, IsNumberedRefusal, IsRefusalOf}
 use Rattle.row_atomic.specs.Clusters.{ClusterState, IsMatched}
@@ -18,6 +19,7 @@ use Rattle.row_atomic.specs.declared.commands.Command.TheVariants as command
 use Rattle.row_atomic.specs.declared.commands.Outcome.{Outcome}
 use Rattle.row_atomic.specs.declared.commands.Outcome.TheVariants as outcome
 use Rattle.row_atomic.proofs.Flushes.{keeps_on, keeps_start}
+use Rattle.row_atomic.proofs.MergeStates.{beside, root_still}
 use Rattle.row_atomic.proofs.RestedClusters.{are_flushed, rests_after, stays_or_rests, still_told, when_done, when_refused as if_refused}
 use Rattle.row_atomic.proofs.RootFlushes.{checkpointed, not_flushed, refused_same}
 
@@ -74,11 +76,12 @@ module _ {F : Type 0} (contents : F → Option Contents) (faults : F → ℕ) wh
 
   -- ---- the root
 
-  pub root_keeps : (old : ClusterState F) (files : F) → IsTable old.places → IsMatched old.file_limit old.next_name old.places old.tablets → UnnamedMayGo
+  pub root_keeps : (old : ClusterState F) (files : F) → IsTable old.places → IsMatched old.file_limit old.next_name old.places old.tablets → UnnamedMayGo → StaysOpen
       → (contents files ≡ contents old.files) ⊎ KeepsOthers root_name (contents old.files) (contents files) → faults old.files ≤ faults files
       → KeepsShown contents faults old (record old { files = files })
-  root_keeps old files table matched law may later = record {
-    kept = still_told old.places old.tablets old.file_limit old.next_name table matched law (contents old.files) (contents files) may;
+  root_keeps old files table matched law opened may later = record {
+    kept = λ holds. beside (root_still opened (contents old.files) (contents files) old.file_limit old.next_name old.merge may holds.1)
+        (still_told old.places old.tablets old.file_limit old.next_name table matched law (contents old.files) (contents files) may holds.0);
     spots = refl;
     limit = refl;
     later = later;

@@ -248,7 +248,7 @@ module _ (changes : List RowEdits) where
 
     pub applied_all : {F : Type 0} (contents : F → Option Contents) (state : ClusterState F) → IsTable state.places → ArePlaced state.tablets None state.places → length state.tablets ≡ length state.places → AppliesAll (seen_of contents) changes state (record state { tablets = map edited state.tablets })
     applied_all contents state table placed as_many = record {
-      still = order_map (contents state.files) state.next_name state.tablets;
+      still = λ held. (order_map (contents state.files) state.next_name state.tablets held.0, held.1);
       readable = λ row whole. readable_map (contents state.files) state.places state.tablets row whole;
       made = made_map state.places state.tablets table placed as_many (contents state.files);
       room = λ row later full. inr (room_map state.places state.tablets row later full);

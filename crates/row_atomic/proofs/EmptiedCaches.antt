@@ -165,8 +165,8 @@ module _ {F : Type 0} (contents : F → Option Contents) where
 
   pub uncached : (count : F → ℕ) (old : ClusterState F) (tablets : List Tablet) → AllZip (IsSameTablet (contents old.files)) old.tablets tablets → IsOutcome contents count command.DropCaches outcome.Done old (record old { tablets = tablets })
   uncached count old tablets all = record {
-    still = λ order. order_still (contents old.files) old.next_name old.tablets tablets all order;
-    answers = λ order. cells_still (contents old.files) old.next_name old.tablets tablets all order;
+    still = λ held. (order_still (contents old.files) old.next_name old.tablets tablets all held.0, held.1);
+    answers = λ held. cells_still (contents old.files) old.next_name old.tablets tablets all held.0;
     upholds = record { tablets = all; rest = refl };
     files = tt;
     lists = λ _ name listed. listed;

@@ -121,7 +121,7 @@ module _ {F : Type 0} (contents : F → Option Contents) (stored : RootIsStored 
     replay = goes tracks.base tracks.replay;
   }
 
-  pub reads_recorded : (old new : Recorded F) → new.journal ≡ old.journal → OnlyReads (seen_of contents) old.cluster new.cluster → OnlyReads (seen_recorded contents) old new
+  pub reads_recorded : {W : Type 0} (old new : Recorded F W) → new.journal ≡ old.journal → OnlyReads (seen_of contents) old.cluster new.cluster → OnlyReads (seen_recorded contents) old new
   reads_recorded old new same reads = record {
     still = λ held. (
       reads.still held.0,
@@ -138,7 +138,7 @@ module _ {F : Type 0} (contents : F → Option Contents) (stored : RootIsStored 
   }
 
   -- without a journal
-  makes_plain : (Read : Type 0) (edits : List Edit) (old new : Recorded F) → old.journal ≡ None → new.journal ≡ None → Makes (seen_of contents) Read edits old.cluster new.cluster → Makes (seen_recorded contents) Read edits old new
+  makes_plain : {W : Type 0} (Read : Type 0) (edits : List Edit) (old new : Recorded F W) → old.journal ≡ None → new.journal ≡ None → Makes (seen_of contents) Read edits old.cluster new.cluster → Makes (seen_recorded contents) Read edits old new
   makes_plain Read edits old new none still_none makes = record {
     still = λ held. (makes.still held.0, subst (λ (journal : Option JournalView). Follows contents new.cluster journal) (sym still_none) tt);
     readable = makes.readable;
@@ -150,7 +150,7 @@ module _ {F : Type 0} (contents : F → Option Contents) (stored : RootIsStored 
     stays = λ i. record (makes.stays i) { logged = logged_of ((still_none ∙ sym none) i) };
   }
 
-  makes_recorded : Replays → (Read : Type 0) (edits : List Edit) → AllByRecursion IsStoredEdit edits → (old new : Recorded F) (journal : JournalView) → old.journal ≡ Some journal → new.journal ≡ Some (with_waiting edits journal)
+  makes_recorded : {W : Type 0} → Replays → (Read : Type 0) (edits : List Edit) → AllByRecursion IsStoredEdit edits → (old new : Recorded F W) (journal : JournalView) → old.journal ≡ Some journal → new.journal ≡ Some (with_waiting edits journal)
       → ((seen_of contents).holds old.cluster → Read) → Makes (seen_of contents) Read edits old.cluster new.cluster → Makes (seen_recorded contents) Read edits old new
   makes_recorded replays Read edits are_stored old new journal was is each makes = record {
     still = λ held. (
@@ -173,11 +173,11 @@ module _ {F : Type 0} (contents : F → Option Contents) (stored : RootIsStored 
       logged_is = ap logged_of is ∙ ap logged_of (sym was)
 
   -- edits of one row
-  pub applies_plain : (row : List ℕ) (edits : List Edit) (old new : Recorded F) → old.journal ≡ None → new.journal ≡ None → Applies (seen_of contents) row edits old.cluster new.cluster → Applies (seen_recorded contents) row edits old new
+  pub applies_plain : {W : Type 0} (row : List ℕ) (edits : List Edit) (old new : Recorded F W) → old.journal ≡ None → new.journal ≡ None → Applies (seen_of contents) row edits old.cluster new.cluster → Applies (seen_recorded contents) row edits old new
   applies_plain row edits old new none still_none applies =
       to_one row edits old new (makes_plain ((seen_of contents).readable old.cluster row) edits old new none still_none (of_one row edits old.cluster new.cluster applies))
 
-  pub applies_recorded : Replays → (row : List ℕ) (edits : List Edit) → AllByRecursion IsStoredEdit edits → (old new : Recorded F) (journal : JournalView) → old.journal ≡ Some journal → new.journal ≡ Some (with_waiting edits journal)
+  pub applies_recorded : {W : Type 0} → Replays → (row : List ℕ) (edits : List Edit) → AllByRecursion IsStoredEdit edits → (old new : Recorded F W) (journal : JournalView) → old.journal ≡ Some journal → new.journal ≡ Some (with_waiting edits journal)
       → Applies (seen_of contents) row edits old.cluster new.cluster → Applies (seen_recorded contents) row edits old new
   applies_recorded replays row edits are_stored old new journal was is applies =
       to_one row edits old new
@@ -194,14 +194,14 @@ module _ {F : Type 0} (contents : F → Option Contents) (stored : RootIsStored 
   of_all : (changes : List RowEdits) (old new : ClusterState F) → AppliesAll (seen_of contents) changes old new → Makes (seen_of contents) (AllRead changes old) (all_edits changes) old new
   of_all changes old new applies = record { still = applies.still; readable = applies.readable; made = applies.made; room = applies.room; stays = applies.stays }
 
-  to_all : (changes : List RowEdits) (old new : Recorded F) → Makes (seen_recorded contents) (AllRead changes old.cluster) (all_edits changes) old new → AppliesAll (seen_recorded contents) changes old new
+  to_all : {W : Type 0} (changes : List RowEdits) (old new : Recorded F W) → Makes (seen_recorded contents) (AllRead changes old.cluster) (all_edits changes) old new → AppliesAll (seen_recorded contents) changes old new
   to_all changes old new makes = record { still = makes.still; readable = makes.readable; made = makes.made; room = makes.room; stays = makes.stays }
 
-  pub all_plain : (changes : List RowEdits) (old new : Recorded F) → old.journal ≡ None → new.journal ≡ None → AppliesAll (seen_of contents) changes old.cluster new.cluster → AppliesAll (seen_recorded contents) changes old new
+  pub all_plain : {W : Type 0} (changes : List RowEdits) (old new : Recorded F W) → old.journal ≡ None → new.journal ≡ None → AppliesAll (seen_of contents) changes old.cluster new.cluster → AppliesAll (seen_recorded contents) changes old new
   all_plain changes old new none still_none applies =
       to_all changes old new (makes_plain (AllRead changes old.cluster) (all_edits changes) old new none still_none (of_all changes old.cluster new.cluster applies))
 
-  pub all_recorded : Replays → (changes : List RowEdits) → AllByRecursion IsStoredEdit (all_edits changes) → (old new : Recorded F) (journal : JournalView) → old.journal ≡ Some journal → new.journal ≡ Some (with_waiting (all_edits changes) journal)
+  pub all_recorded : {W : Type 0} → Replays → (changes : List RowEdits) → AllByRecursion IsStoredEdit (all_edits changes) → (old new : Recorded F W) (journal : JournalView) → old.journal ≡ Some journal → new.journal ≡ Some (with_waiting (all_edits changes) journal)
       → AppliesAll (seen_of contents) changes old.cluster new.cluster → AppliesAll (seen_recorded contents) changes old new
   all_recorded replays changes are_stored old new journal was is applies =
       to_all changes old new
@@ -214,28 +214,28 @@ module _ {F : Type 0} (contents : F → Option Contents) where
   abbrev LeavesRoom : List Edit → ClusterState F → ClusterState F → Type 0
   LeavesRoom edits old new = (r : List ℕ) (later : List Edit) → OverfillsCluster new r later → OverfillsCluster old r later ⊎ OverfillsCluster old r (edits ++ later)
 
-  room_plain : (edits : List Edit) (old new : Recorded F) → old.journal ≡ None → LeavesRoom edits old.cluster new.cluster → FitsMemtables old → FitsMemtables new
+  room_plain : {W : Type 0} (edits : List Edit) (old new : Recorded F W) → old.journal ≡ None → LeavesRoom edits old.cluster new.cluster → FitsMemtables old → FitsMemtables new
   room_plain edits old new none room fits = λ r later full. absurd (elim (room r later full) [
     | inl before ↦ subst (λ (o : Option JournalView). OverfillsJournal o later) none (fits r later before)
     | inr after ↦ subst (λ (o : Option JournalView). OverfillsJournal o (edits ++ later)) none (fits r (edits ++ later) after)
   ])
 
-  room_recorded : (edits : List Edit) (old new : Recorded F) (journal : JournalView) → old.journal ≡ Some journal → new.journal ≡ Some (with_waiting edits journal) → LeavesRoom edits old.cluster new.cluster → FitsMemtables old → FitsMemtables new
+  room_recorded : {W : Type 0} (edits : List Edit) (old new : Recorded F W) (journal : JournalView) → old.journal ≡ Some journal → new.journal ≡ Some (with_waiting edits journal) → LeavesRoom edits old.cluster new.cluster → FitsMemtables old → FitsMemtables new
   room_recorded edits old new journal was is room fits = λ r later full. subst (λ (o : Option JournalView). OverfillsJournal o later) (sym is) (elim (room r later full) [
     | inl before ↦ less_now journal edits later (subst (λ (o : Option JournalView). OverfillsJournal o later) was (fits r later before))
     | inr after ↦ more_room journal edits later (subst (λ (o : Option JournalView). OverfillsJournal o (edits ++ later)) was (fits r (edits ++ later) after))
   ])
 
-  pub fits_plain : (row : List ℕ) (edits : List Edit) (old new : Recorded F) → old.journal ≡ None → Applies (seen_of contents) row edits old.cluster new.cluster → FitsMemtables old → FitsMemtables new
+  pub fits_plain : {W : Type 0} (row : List ℕ) (edits : List Edit) (old new : Recorded F W) → old.journal ≡ None → Applies (seen_of contents) row edits old.cluster new.cluster → FitsMemtables old → FitsMemtables new
   fits_plain row edits old new none applies = room_plain edits old new none applies.room
 
-  pub fits_recorded : (row : List ℕ) (edits : List Edit) (old new : Recorded F) (journal : JournalView) → old.journal ≡ Some journal → new.journal ≡ Some (with_waiting edits journal) → Applies (seen_of contents) row edits old.cluster new.cluster → FitsMemtables old → FitsMemtables new
+  pub fits_recorded : {W : Type 0} (row : List ℕ) (edits : List Edit) (old new : Recorded F W) (journal : JournalView) → old.journal ≡ Some journal → new.journal ≡ Some (with_waiting edits journal) → Applies (seen_of contents) row edits old.cluster new.cluster → FitsMemtables old → FitsMemtables new
   fits_recorded row edits old new journal was is applies = room_recorded edits old new journal was is applies.room
 
-  pub all_fits_plain : (changes : List RowEdits) (old new : Recorded F) → old.journal ≡ None → AppliesAll (seen_of contents) changes old.cluster new.cluster → FitsMemtables old → FitsMemtables new
+  pub all_fits_plain : {W : Type 0} (changes : List RowEdits) (old new : Recorded F W) → old.journal ≡ None → AppliesAll (seen_of contents) changes old.cluster new.cluster → FitsMemtables old → FitsMemtables new
   all_fits_plain changes old new none applies = room_plain (all_edits changes) old new none applies.room
 
-  pub all_fits_recorded : (changes : List RowEdits) (old new : Recorded F) (journal : JournalView) → old.journal ≡ Some journal → new.journal ≡ Some (with_waiting (all_edits changes) journal) → AppliesAll (seen_of contents) changes old.cluster new.cluster → FitsMemtables old → FitsMemtables new
+  pub all_fits_recorded : {W : Type 0} (changes : List RowEdits) (old new : Recorded F W) (journal : JournalView) → old.journal ≡ Some journal → new.journal ≡ Some (with_waiting (all_edits changes) journal) → AppliesAll (seen_of contents) changes old.cluster new.cluster → FitsMemtables old → FitsMemtables new
   all_fits_recorded changes old new journal was is applies = room_recorded (all_edits changes) old new journal was is applies.room
 
 -- ---- the room for edits of several rows
@@ -259,7 +259,7 @@ edits_parted (c ∷ cs) (suc i) change below is =
     ap (λ es. c.edits.items ++ es) (edits_parted cs i change (omega arith) is)
     ∙ sym (append_assoc c.edits.items (all_edits (take i cs)) (change.edits.items ++ all_edits (drop (suc i) cs)))
 
-module _ {F : Type 0} (changes : List RowEdits) (rows : Recorded F) where
+module _ {F W : Type 0} (changes : List RowEdits) (rows : Recorded F W) where
   -- the memtable of one row, and a journal, would exceed a limit
   pub all_full : OverfillsOne OverfillsCluster changes rows.cluster → OverfillsOne OverfillsRecorded changes rows
   all_full full = record { change = full.change; among = full.among; over = inl full.over }
@@ -325,6 +325,7 @@ module _ {F : Type 0} (contents : F → Option Contents) (faults : F → ℕ) wh
     root_sweeps = λ result journal old new is holds. each_such (on old new (is.shown holds) (λ root cells. outlast_sweeps.stays root cells result old new is)) journal;
     flushes = λ limits journal old new is keeps holds. each_such (on old new (keeps.kept holds).1 (λ root cells. ((outlast_flushes root cells old new).0 limits is).0)) journal;
     merges = λ policy journal old new is keeps holds. each_such (on old new (keeps.kept holds).1 (λ root cells. outlast_merges root cells old new policy is)) journal;
+    roots = λ journal old new goes keeps holds. each_such (on old new (keeps.kept holds).1 goes) journal;
     checkpoints = λ top floor journal old new rests keeps holds. each_such (rests_all replays top floor old new rests holds (keeps.kept holds).1) journal;
     rests = λ top floor old new rests keeps holds. record { root = root_at top floor new; base = cells_shown contents old; has = (rests holds).has; replay = sym (keeps.kept holds).1 };
     refused = λ top floor journal old new either keeps holds. elim either [

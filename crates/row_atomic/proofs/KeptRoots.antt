@@ -128,14 +128,14 @@ used_told root m next after told sound below (inr used) = (
 root_kept : (places : List PlaceView) → is_kept places root_name ≡ true
 root_kept places = refl
 
-listed_kept : (places : List PlaceView) (name : ℕ) → IsListed name places → is_kept places name ≡ true
+pub listed_kept : (places : List PlaceView) (name : ℕ) → IsListed name places → is_kept places name ≡ true
 listed_kept places name l = go (name == 0)
   where
     go : (b : Bool) → (b || list_any (λ p. list_any (λ file. file == name) p.files) places) ≡ true
     go true = refl
     go false = listed_true places name l
 
-not_gone : (places : List PlaceView) (m n : Contents) (name : ℕ) → is_kept places name ≡ true → (get n name ≡ get m name) ⊎ ((is_kept places name ≡ false) × (get n name ≡ None)) → get n name ≡ get m name
+pub not_gone : (places : List PlaceView) (m n : Contents) (name : ℕ) → is_kept places name ≡ true → (get n name ≡ get m name) ⊎ ((is_kept places name ≡ false) × (get n name ≡ None)) → get n name ≡ get m name
 not_gone places m n name kept (inl same) = same
 not_gone places m n name kept (inr gone) = let not = gone.0 in cc
 

@@ -11,6 +11,7 @@ pub mod FileNames
 pub mod Flushes
 pub mod Following
 pub mod Fresh
+pub mod GivenUp
 pub mod Joined
 pub mod JournalRoom
 pub mod Journals
@@ -24,6 +25,8 @@ pub mod ManyNexts
 pub mod ManyRows
 pub mod ManyVersions
 pub mod Memtables
+pub mod MergeStates
+pub mod MergeSteps
 pub mod MovedTablets
 pub mod Nexts
 pub mod Numbers

@@ -43,6 +43,13 @@ bounds : (most : Fill) (ts : List Tablet) → longest ts ≤ most.entries → la
 bounds most [] long large = tt
 bounds most (t ∷ ts) long large = (record { entries = omega arith; bytes = omega arith }, bounds most ts (omega arith) (omega arith))
 
+pub largest_within : (most : Fill) (ts : List Tablet) → HaveAtMost most ts → largest ts ≤ most.bytes
+largest_within most [] few = omega arith
+largest_within most (t ∷ ts) few =
+    let first = few.0.bytes in
+    let rest = largest_within most ts few.1 in
+    omega (arith, first, rest)
+
 pub fullest_bounds : (most : Fill) (ts : List Tablet) → most.entries ≡ longest ts → most.bytes ≡ largest ts → HaveAtMost most ts
 fullest_bounds most ts long large = bounds most ts (omega arith) (omega arith)
 

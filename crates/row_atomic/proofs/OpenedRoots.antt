@@ -15,6 +15,7 @@ use Rattle.tablet.specs.declared.tablet.Tablet.{Tablet}
 use Rattle.row_atomic.specs.Changes.{Holds, IsEmptied}
 use Rattle.row_atomic.specs.Clusters.{ArePlaced, ClusterState, cells_in, joined, tablet_numbered}
 use Rattle.row_atomic.specs.Roots.{AreMeasured, AreOpened, KeepsCells, root_at, root_name}
+use Rattle.row_atomic.specs.MergeStates.{HoldsMerge, MergeState}
 use Rattle.row_atomic.specs.Open.{AreLoaded, FindsRoot, HasBadRoot, IsDamaged, IsStore, LacksFile, Reopens, no_file, no_length, no_root}
 use Rattle.row_atomic.proofs.ListedFiles.{same_lists}
 use Rattle.row_atomic.proofs.Owners.{each_placed}
@@ -154,9 +155,12 @@ module _ {F : Type 0} (contents : F → Option Contents) (top floor : ℕ) (stat
       let same : found.1.0.0 ≡ t = same_Some found.1.0.0 t (sym found.1.0.1.0 ∙ ap (λ (n : ℕ). tablet_numbered n state.tablets) found.1.1 ∙ e) in
       subst (IsBelow state.next_name) same found.1.0.1.1)
 
-  pub holds_of : (told : Option Contents) → contents state.files ≡ told → IfSome told (λ m. AllByRecursion (HoldsAt m) state.tablets) → IfSome told (λ _. Holds contents state)
-  holds_of None e each = tt
-  holds_of (Some m) e each = record { contents = m; on_disk = e; each_open = each; each_below = each_below }
+  pub holds_of : state.merge ≡ None → (told : Option Contents) → contents state.files ≡ told → IfSome told (λ m. AllByRecursion (HoldsAt m) state.tablets) → IfSome told (λ _. Holds contents state)
+  holds_of none None e each = tt
+  holds_of none (Some m) e each = (
+    record { contents = m; on_disk = e; each_open = each; each_below = each_below },
+    subst (λ (merge : Option MergeState). HoldsMerge (contents state.files) state.file_limit state.next_name merge) (sym none) tt,
+  )
 
   pub store_of : (told : Option Contents) (lengths : List ℕ) → IfSome told (λ m. FindsRoot (get m root_name) (Some (root_at top floor state, lengths))) → IfSome told (λ m. AreMeasured m (file_names state.places) lengths) → IfSome told (λ m. AllByRecursion (HoldsAt m) state.tablets) → IfSome told (λ m. IsStore m (get m root_name) top floor state)
   store_of None lengths finds measured each = tt
@@ -208,7 +212,7 @@ module _ {F : Type 0} (contents : F → Option Contents) (one : OneRoot) (measur
     view = record { top = top; floor = floor; next_name = next; places = places }
 
     abbrev state : ClusterState F
-    state = record { files = last; file_limit = limit; next_name = next; places = places; tablets = tablets }
+    state = record { files = last; file_limit = limit; next_name = next; places = places; tablets = tablets; merge = None }
 
     module _ (sound : IsSoundRoot view) (loaded : AreLoaded places tablets) (lengths : List ℕ) (finds : IfSome (contents first) (λ m. FindsRoot (get m root_name) (Some (view, lengths)))) (measured : IfSome (contents mid) (λ m. AreMeasured m (file_names places) lengths)) (each : IfSome (contents mid) (λ m. AllByRecursion (HoldsAt m) tablets)) where
       each_first : IfSome (contents first) (λ m. AllByRecursion (HoldsAt m) tablets)
@@ -221,7 +225,7 @@ module _ {F : Type 0} (contents : F → Option Contents) (one : OneRoot) (measur
       opened_store = store_of contents top floor state sound loaded (contents first) lengths finds measured_first each_first
 
       pub opened_holds : IfSome (contents first) (λ _. Holds contents state)
-      opened_holds = holds_of contents top floor state sound loaded (contents first) (loads ∙ read) each_first
+      opened_holds = holds_of contents top floor state sound loaded refl (contents first) (loads ∙ read) each_first
 
       pub opened_whole : IfSome (contents first) (λ m. ¬ IsDamaged m)
       opened_whole = stores_whole one measure there (contents first) top floor state opened_store

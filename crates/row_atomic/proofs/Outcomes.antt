@@ -17,6 +17,7 @@ use Rattle.row_atomic.specs.Changes.{Holds, IsAsBefore, IsCompacted, IsCut, IsEm
 use Rattle.row_atomic.specs.Clusters.{ClusterState, spots_of, storage_of}
 use Rattle.row_atomic.specs.Commands.{AnswersFromCells, BarsCompaction, BarsReading, HasCause, IsNoFuller, IsOutcome, LeavesRoom, MayCompact, OverfillsCluster, TellsFaults, Upholds, UsesFiles, cells_shown, compacting, done_of, split_of, swept_of}
 use Rattle.rows.specs.Refusals.{IsApplyRefusal, IsReadRefusal}
+use Rattle.row_atomic.specs.MergeStates.{MayGiveUp}
 use Rattle.row_atomic.specs.Sweeps.{MayLackUnkept, count_swept, is_kept, swept}
 use Rattle.tablet.specs.declared.compactions.Compaction.{Compaction}
 use Rattle.tablet.specs.declared.compactions.Compaction.TheVariants as compactions
@@ -112,7 +113,7 @@ err_reason e before now reason = record {
   told = λ other. reason.told (λ is. other (err_of e Device (let is = is in cc)));
 }
 
-told_after : {F : Type 0} (count : F → ℕ) (result : Outcome) (old mid new : ClusterState F) → count mid.files ≡ count old.files → TellsFaults count result mid new → TellsFaults count result old new
+pub told_after : {F : Type 0} (count : F → ℕ) (result : Outcome) (old mid new : ClusterState F) → count mid.files ≡ count old.files → TellsFaults count result mid new → TellsFaults count result old new
 told_after count result old mid new same told = record {
   later = subst (λ (k : ℕ). k ≤ count new.files) same told.later;
   device = λ is. subst (λ (k : ℕ). HasRisen k (count new.files)) same (told.device is);
@@ -385,7 +386,7 @@ module _ {F : Type 0} (contents : F → Option Contents) (count : F → ℕ) (ro
     }
     cut_after new (Err e) flush kept limit name none number cut halved spots may lists damaged refusal reason = record {
       still = λ order. (kept (flush.still order)).0;
-      answers = λ order. ((λ is. none_out (contents old.files) old.next_name p.tablet old.tablets order (holder_that (IsOutOfOrder (contents old.files)) row old.places old.tablets p holder (damaged (err_of e Damaged is)))), (kept (flush.still order)).1 ∙ flush.answers order);
+      answers = λ order. ((λ is. none_out (contents old.files) old.next_name p.tablet old.tablets order.0 (holder_that (IsOutOfOrder (contents old.files)) row old.places old.tablets p holder (damaged (err_of e Damaged is)))), (kept (flush.still order)).1 ∙ flush.answers order);
       upholds = (read_split e refusal, (spots, may));
       files = record { name = name; limit = limit ∙ flush.files.0.limit; none = none };
       lists = λ _ name l. lists name (flush.lists (λ takes. absurd takes.0) name l);
@@ -509,7 +510,7 @@ module _ {F : Type 0} (contents : F → Option Contents) (count : F → ℕ) (n 
     }
     put_after new (Err e) flush kept limit name none moved flushed spots may lists damaged refusal reason = record {
       still = λ order. (kept (flush.still order)).0;
-      answers = λ order. ((λ is. none_out (contents old.files) old.next_name n old.tablets order (damaged (err_of e Damaged is))), (kept (flush.still order)).1 ∙ flush.answers order);
+      answers = λ order. ((λ is. none_out (contents old.files) old.next_name n old.tablets order.0 (damaged (err_of e Damaged is))), (kept (flush.still order)).1 ∙ flush.answers order);
       upholds = (read_move e refusal, (away, spots, may));
       files = record { name = name; limit = limit ∙ flush.files.0.limit; none = none };
       lists = λ _ name l. lists name (flush.lists (λ takes. absurd takes.0) name l);
@@ -538,7 +539,7 @@ module _ {F : Type 0} (contents : F → Option Contents) (count : F → ℕ) (n 
 
 -- ---- sweeps
 
-module _ {F : Type 0} (contents : F → Option Contents) (count : F → ℕ) (old new : ClusterState F) (kept : KeepsMap contents old new) (rest : new ≡ record old { files = new.files }) where
+module _ {F : Type 0} (contents : F → Option Contents) (count : F → ℕ) (old new : ClusterState F) (kept : KeepsMap contents old new) (rest : new ≡ record old { files = new.files; merge = new.merge }) (given : MayGiveUp old.merge new.merge) where
   -- other files use no room in memory
   same_room : IsNoFuller old new
   same_room row later full = subst (λ (state : ClusterState F). OverfillsCluster state row later) rest full
@@ -548,7 +549,7 @@ module _ {F : Type 0} (contents : F → Option Contents) (count : F → ℕ) (ol
   swept_so (Ok many) files counted lacks refusal reason = record {
     still = λ order. (kept order).0;
     answers = λ order. (kept order).1;
-    upholds = record { files = files; counted = counted; rest = rest };
+    upholds = record { files = files; counted = counted; rest = rest; merge = given };
     files = tt;
     lists = λ _. same_lists old.places new.places (ap (λ state. state.places) rest);
     room = same_room;
@@ -564,7 +565,7 @@ module _ {F : Type 0} (contents : F → Option Contents) (count : F → ℕ) (ol
       ]),
       (kept order).1,
     );
-    upholds = (refusal, record { files = lacks; rest = rest });
+    upholds = (refusal, record { files = lacks; rest = rest; merge = given });
     files = tt;
     lists = λ _. same_lists old.places new.places (ap (λ state. state.places) rest);
     room = same_room;

@@ -198,10 +198,10 @@ rooted contents top floor state cells keeps = go (contents state.files) refl kee
 pub put_rests : {F : Type 0} (contents : F → Option Contents) (top floor : ℕ) (old : ClusterState F) (files : F) → IsTable old.places → IsMatched old.file_limit old.next_name old.places old.tablets → UnnamedMayGo
     → (image lengths : List ℕ) → IsRootIn Two (root_at top floor old) lengths image → contents files ≡ with_file root_name image (contents old.files)
     → IfSome (contents old.files) (λ m. AreMeasured m (file_names old.places) lengths) → AreFlushed old → Rests contents top floor old (record old { files = files })
-put_rests contents top floor old files table matched law image lengths written put measured flushed order =
+put_rests contents top floor old files table matched law image lengths written put measured flushed holds =
     rooted contents top floor (record old { files = files }) (cells_in (contents old.files) old.tablets)
     (keeps_told old.places old.tablets old.file_limit old.next_name table matched law (contents old.files) (contents files) image (root_at top floor old) put refl
-    (record { lengths = lengths; measured = record { format = Two; form = written } }) measured flushed order)
+    (record { lengths = lengths; measured = record { format = Two; form = written } }) measured flushed holds.0)
 
 -- ---- the checkpoint
 

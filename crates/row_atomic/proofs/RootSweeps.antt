@@ -12,6 +12,7 @@ use Rattle.rows.specs.Refusals.{IsReadRefusal}
 use Rattle.sorted_file.specs.Source.{IsFaultRefusal}
 use Rattle.row_atomic.specs.Changes.{KeepsMap}
 use Rattle.row_atomic.specs.Clusters.{ClusterState}
+use Rattle.row_atomic.specs.MergeStates.{MayGiveUp}
 use Rattle.row_atomic.specs.Open.{FindsRoot, HasBadRoot, told_of}
 use Rattle.row_atomic.specs.RootSweeps.{AreNamedIn, AreRootPlaces, SweepsBesideRoot}
 use Rattle.row_atomic.specs.Roots.{root_name}
@@ -52,7 +53,7 @@ module _ (places : List PlaceView) where
   counted_named None count found named same is = tt
   counted_named (Some m) count found named same is = subst (λ (n : Option (List PlaceView)). count ≡ count_swept (keeps n) m) (sym same) is
 
-module _ {F : Type 0} (contents : F → Option Contents) (faults : F → ℕ) (old new : ClusterState F) (kept : KeepsMap contents old new) (rest : new ≡ record old { files = new.files }) where
+module _ {F : Type 0} (contents : F → Option Contents) (faults : F → ℕ) (old new : ClusterState F) (kept : KeepsMap contents old new) (rest : new ≡ record old { files = new.files; merge = new.merge }) (given : MayGiveUp old.merge new.merge) where
   -- files were removed
   pub sweeps_so : (found : Option (List PlaceView)) (r : Result ℕ Refusal) → Names (contents old.files) found
       → OnOk r (contents new.files ≡ option_map (swept (is_kept_beside found old.places)) (contents old.files))
@@ -63,8 +64,9 @@ module _ {F : Type 0} (contents : F → Option Contents) (faults : F → ℕ) (o
     still = λ order. (kept order).0;
     shown = λ order. (kept order).1;
     done = done r files counted;
-    part = λ named is. record { files = lacks_named old.places _ _ found named (names named is) lacks; rest = rest };
+    part = λ named is. record { files = lacks_named old.places _ _ found named (names named is) lacks; rest = rest; merge = given };
     rest = rest;
+    merge = given;
     refusal = refusal;
     damaged = λ is. absurd (sound is);
     reason = reason;
@@ -77,6 +79,7 @@ module _ {F : Type 0} (contents : F → Option Contents) (faults : F → ℕ) (o
         files = swept_named old.places _ _ found named (names named is) files;
         counted = counted_named old.places _ count found named (names named is) counted;
         rest = rest;
+        merge = given;
       }
       done (Err e) files counted = tt
 

@@ -20,12 +20,15 @@ use Rattle.tablet.specs.declared.compactions.Compaction.TheVariants.{Minor, Merg
 use Rattle.tablet.specs.declared.ranges.RowRange.{RowRange}
 use Rattle.tablet.specs.declared.tablet.Tablet.{Tablet}
 use Rattle.row_atomic.specs.Clusters.{ClusterState, InOrder, PrecedesCell, cells_in, tablet_numbered}
+use Rattle.row_atomic.specs.MergeStates.{HoldsMerge}
 
 -- ---- all tablets
 
--- the tablets of a cluster are in order over its files
+-- The tablets of a cluster are in order over its files, and a merge that is under way can go on.
 abbrev pub Holds : {F : Type 0} → (F → Option Contents) → ClusterState F → Type 0
-Holds contents state = InOrder (contents state.files) state.next_name state.tablets
+Holds contents state =
+    InOrder (contents state.files) state.next_name state.tablets
+    × HoldsMerge (contents state.files) state.file_limit state.next_name state.merge
 
 -- If the tablets were in order, they still are, with the same cells.
 abbrev pub KeepsMap : {F : Type 0} → (F → Option Contents) → ClusterState F → ClusterState F

@@ -13,19 +13,21 @@ use Rattle.metadata_table.specs.Roots.{AreFiles}
 use Rattle.metadata_table.specs.Table.{IsHolder, IsTable}
 use Rattle.sorted_file.specs.Limits.{IsFileLimit}
 use Rattle.rows.specs.Storage.{Storage}
+use Rattle.row_atomic.specs.MergeStates.{MergeState}
 use Rattle.tablet.specs.Ranges.{has_row}
 use Rattle.tablet.specs.Views.{Holds, IsBelow, cells_at, files_of, memory_of, names_of, range_of}
 use Rattle.tablet.specs.declared.ranges.RowRange.{RowRange}
 use Rattle.tablet.specs.declared.tablet.Tablet.{Tablet}
 
 -- its files, the most bytes of a sorted file, the next file's name, the places of its tablets in the order of their
--- ends, and the tablets, each at the index of its number less 1
+-- ends, the tablets, each at the index of its number less 1, and the merge that is under way
 pub record ClusterState (F : Type 0) : Type 0 where
   pub files : F
   pub file_limit : ℕ
   pub next_name : ℕ
   pub places : List PlaceView
   pub tablets : List Tablet
+  pub merge : Option MergeState
 
 -- the tablet with a number, if there is one
 abbrev pub tablet_numbered : ℕ → List Tablet → Option Tablet

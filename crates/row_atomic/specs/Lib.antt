@@ -7,6 +7,8 @@ pub mod Journals
 pub mod ListRoom
 pub mod ManyRows
 pub mod Memtables
+pub mod MergeStates
+pub mod MergeSteps
 pub mod Open
 pub mod PlaceCaches
 pub mod ReadableLaw

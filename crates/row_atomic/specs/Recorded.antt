@@ -15,6 +15,7 @@ use Rattle.row_atomic.specs.Clusters.{ClusterState, storage_of}
 use Rattle.row_atomic.specs.Commands.{IsOutcome, OverfillsCluster, cells_shown}
 use Rattle.row_atomic.specs.Flushes.{CompactsFull, KeepsShown, MergesMany}
 use Rattle.row_atomic.specs.Journals.{HasRoomFor, HasWritten, JournalView}
+use Rattle.row_atomic.specs.MergeSteps.{KeepsRoots}
 use Rattle.row_atomic.specs.Open.{IsStore, Reopens}
 use Rattle.row_atomic.specs.RootSweeps.{SweepsBesideRoot}
 use Rattle.row_atomic.specs.Roots.{HasRoot, Rests, StaysOrRests, root_name}
@@ -74,13 +75,13 @@ OverfillsJournal None edits = ⊥
 OverfillsJournal (Some journal) edits = ¬ HasRoomFor journal edits
 
 -- Edits of a row would exceed a limit of the row's memtable, or of the journal.
-abbrev pub OverfillsRecorded : {F : Type 0} → Recorded F → List ℕ → List Edit → Type 0
+abbrev pub OverfillsRecorded : {F W : Type 0} → Recorded F W → List ℕ → List Edit → Type 0
 OverfillsRecorded rows row edits =
     OverfillsCluster rows.cluster row edits ⊎ OverfillsJournal rows.journal edits
 
 -- The view of the cluster, with the journal's limit and the logged bytes. It holds if the cluster is in order and the
 -- journal leads to the cells shown.
-abbrev pub seen_recorded : {F : Type 0} → (F → Option Contents) → View (Recorded F)
+abbrev pub seen_recorded : {F W : Type 0} → (F → Option Contents) → View (Recorded F W)
 seen_recorded contents = record {
   holds = λ rows. Holds contents rows.cluster × Follows contents rows.cluster rows.journal;
   readable = λ rows row. (seen_of contents).readable rows.cluster row;
@@ -91,10 +92,14 @@ seen_recorded contents = record {
 }
 
 -- Edits that fit the journal exceed no limit of a memtable: the journal has everything that the memtables have.
-abbrev pub FitsMemtables : {F : Type 0} → Recorded F → Type 0
-FitsMemtables rows =
-    (row : List ℕ) (edits : List Edit) → OverfillsCluster rows.cluster row edits
-    → OverfillsJournal rows.journal edits
+abbrev pub CoversMemtables : {F : Type 0} → ClusterState F → Option JournalView → Type 0
+CoversMemtables state journal =
+    (row : List ℕ) (edits : List Edit) → OverfillsCluster state row edits
+    → OverfillsJournal journal edits
+
+-- the same of a cluster and its journal
+abbrev pub FitsMemtables : {F W : Type 0} → Recorded F W → Type 0
+FitsMemtables rows = CoversMemtables rows.cluster rows.journal
 
 -- ---- calls that keep this
 
@@ -122,6 +127,10 @@ pub record KeepsFollowing {F : Type 0} (contents : F → Option Contents) (fault
   pub merges : (policy : MergePolicy) (journal : Option JournalView) (old new : ClusterState F)
       → MergesMany contents faults policy old new → KeepsShown contents faults old new
       → Holds contents old → Follows contents old journal → Follows contents new journal
+  -- Whatever keeps each root and the cells shown, keeps it.
+  pub roots : (journal : Option JournalView) (old new : ClusterState F)
+      → KeepsRoots contents old new → KeepsShown contents faults old new
+      → Holds contents old → Follows contents old journal → Follows contents new journal
   -- An accepted checkpoint: from its root both the journal's edits and the empty list of edits lead to the cells shown.
   pub checkpoints : (top floor : ℕ) (journal : Option JournalView) (old new : ClusterState F)
       → Rests contents top floor old new → KeepsShown contents faults old new
@@ -143,5 +152,4 @@ pub record OpensFollowing {F : Type 0} (contents : F → Option Contents) : Type
       → contents state.files ≡ Some m → IsSome (get m root_name)
       → IsStore m (get m root_name) top floor state → Tracks contents state []
   pub fits : (state : ClusterState F) (journal : JournalView)
-      → AllByRecursion IsEmptied state.tablets
-      → FitsMemtables (record { cluster = state; journal = Some journal })
+      → AllByRecursion IsEmptied state.tablets → CoversMemtables state (Some journal)

@@ -12,6 +12,7 @@ use Rattle.rows.specs.Refusals.{IsReadRefusal}
 use Rattle.row_atomic.specs.Changes.{Holds}
 use Rattle.row_atomic.specs.Clusters.{ClusterState}
 use Rattle.row_atomic.specs.Commands.{cells_shown}
+use Rattle.row_atomic.specs.MergeStates.{MayGiveUp}
 use Rattle.row_atomic.specs.Open.{HasBadRoot}
 use Rattle.row_atomic.specs.Roots.{HasRoot, root_name}
 use Rattle.row_atomic.specs.Sweeps.{IsSwept, IsSweptInPart, is_kept_beside}
@@ -38,7 +39,8 @@ pub record SweepsBesideRoot {F : Type 0} (contents : F → Option Contents) (fau
       → IsSwept (is_kept_beside named old.places) contents count old new)
   pub part : (named : Option (List PlaceView)) → AreNamedIn (contents old.files) named
       → IsSweptInPart (is_kept_beside named old.places) contents old new
-  pub rest : new ≡ record old { files = new.files }
+  pub rest : new ≡ record old { files = new.files; merge = new.merge }
+  pub merge : MayGiveUp old.merge new.merge
   pub refusal : IfErr result IsReadRefusal
   pub damaged : IsErrOf result Damaged → IfSome (contents old.files) HasBadRoot
   pub reason : HasReason (faults old.files) (faults new.files) result

@@ -5,6 +5,7 @@ use Rattle.std.specs.FinMap.{get, keys, retain_keys}
 use Rattle.file_store.specs.Store.{Contents, without_file}
 use Rattle.metadata_table.specs.Places.{PlaceView}
 use Rattle.row_atomic.specs.Clusters.{ClusterState}
+use Rattle.row_atomic.specs.MergeStates.{MayGiveUp}
 
 -- whether a file must stay: it is the root, 0, or belongs to some tablet
 abbrev pub is_kept : List PlaceView → ℕ → Bool
@@ -42,13 +43,16 @@ module _ (kept : ℕ → Bool) where
       → (get n name ≡ get m name) ⊎ ((kept name ≡ false) × (get n name ≡ None)))
 
   module _ {F : Type 0} (contents : F → Option Contents) where
-    -- All files that need not stay were removed, and the count is their number. Nothing else changed.
+    -- All files that need not stay were removed, and the count is their number. A merge of such files was given up.
+    -- Nothing else changed.
     pub record IsSwept (count : ℕ) (old new : ClusterState F) : Type 0 where
       pub files : contents new.files ≡ option_map swept (contents old.files)
       pub counted : IfSome (contents old.files) (λ m. count ≡ count_swept m)
-      pub rest : new ≡ record old { files = new.files }
+      pub rest : new ≡ record old { files = new.files; merge = new.merge }
+      pub merge : MayGiveUp old.merge new.merge
 
-    -- Some files that need not stay may have been removed. Nothing else changed.
+    -- Some files that need not stay may have been removed. A merge of such files was given up. Nothing else changed.
     pub record IsSweptInPart (old new : ClusterState F) : Type 0 where
       pub files : MayLackUnkept (contents old.files) (contents new.files)
-      pub rest : new ≡ record old { files = new.files }
+      pub rest : new ≡ record old { files = new.files; merge = new.merge }
+      pub merge : MayGiveUp old.merge new.merge

@@ -1,18 +1,19 @@
 //! Clusters of tablets over one store of files: the type. Its calls are in the files of `cluster/`.
 
-ghost use Rattle.std.specs.Prelude.{◌≡◌, ◌≤◌, ◌∷◌, [], Contains, Some, IfErr, IfNone, IfOk, IfSome, IsSome, IsOkUnless, length};
+ghost use Rattle.std.specs.Prelude.{◌≡◌, ◌≤◌, ◌∷◌, [], Contains, None, Some, IfErr, IfNone, IfOk, IfSome, IsSome, IsOkUnless, length};
 ghost use Rattle.std.specs.FinMap.{empty};
 ghost use Rattle.metadata_table.specs.Places.{view_of};
 ghost use Rattle.metadata_table.specs.Table.{HasTablet, first_place};
 ghost use Rattle.sorted_file.specs.Limits.{IsFileLimit};
-ghost use Rattle.row_atomic.specs.Changes.{IsAt};
-ghost use Rattle.row_atomic.specs.Clusters.{InOrder, IsFirstTablet, cells_in, tablet_numbered};
+ghost use Rattle.row_atomic.specs.Changes.{Holds, IsAt};
+ghost use Rattle.row_atomic.specs.Clusters.{IsFirstTablet, cells_in, tablet_numbered};
 
 mod caches;
 mod checkpoint;
 mod compact;
 pub(crate) mod laws;
 mod many_rows;
+mod merge_steps;
 mod open;
 mod row_calls;
 mod split;
@@ -21,6 +22,7 @@ mod upkeep;
 
 use crate::fill::Fill;
 use crate::place_cache::PlaceCache;
+use crate::tablet_merge::TabletMerge;
 use cell_key::Refusal;
 pub use checkpoint::ROOT_NAME;
 use file_store::Files;
@@ -36,7 +38,7 @@ use tablet::Tablet;
 /// is reserved before its file is put, and none of them grows after the first change. A split and a move begin with a
 /// minor compaction. They reserve the room for their own changes before it, except for the files that they open.
 #[derive(Drop)]
-pub struct Cluster<F> {
+pub struct Cluster<F: Files> {
     pub(crate) alloc: Global,
     pub(crate) files: F,
     pub(crate) file_limit: u64,
@@ -47,9 +49,13 @@ pub struct Cluster<F> {
     /// be asked.
     pub(crate) most: Fill,
     pub(crate) place_cache: PlaceCache,
+    /// The merge that is under way, of one of the tablets.
+    pub(crate) merge: Option<TabletMerge<F>>,
+    /// The index, in the order of the tablets' ends, of the tablet that is looked at first for the next merge.
+    pub(crate) merge_from: usize,
 }
 
-impl<F> Model for Cluster<F> {
+impl<F: Files> Model for Cluster<F> {
     ghost use Rattle.row_atomic.specs.Clusters.{ClusterState, IsMatched};
     ghost use Rattle.row_atomic.specs.Memtables.{HaveAtMost};
     ghost use Rattle.row_atomic.specs.PlaceCaches.{AreHeld};
@@ -63,6 +69,7 @@ impl<F> Model for Cluster<F> {
           next_name = cluster.next_name;
           places = cluster.table;
           tablets = cluster.tablets.items;
+          merge = cluster.merge;
         } };
 
     ghost invariant = { λ cluster.
@@ -98,10 +105,11 @@ impl<F: Files> Cluster<F> {
         ensures name { IfOk result (λ cluster. cluster.next_name ≡ 1) }
         ensures places { IfOk result (λ cluster. cluster.places ≡ first_place ∷ []) }
         ensures tablet { IfOk result (λ cluster. IsFirstTablet cluster.tablets) }
+        ensures merge { IfOk result (λ cluster. cluster.merge ≡ None) }
         ensures cells { IfOk result (λ cluster.
             cells_in (F.contents files) cluster.tablets ≡ empty) }
         ensures holds { IfOk result (λ cluster. IsSome (F.contents files)
-            → InOrder (F.contents files) cluster.next_name cluster.tablets) }
+            → Holds F.contents cluster) }
         ensures refusal { IfErr result (λ refused. refused.0 ≡ Refusal.NoMemory) }
         ensures returned { IfErr result (λ refused. refused.1 ≡ files) }
     {
@@ -119,6 +127,8 @@ impl<F: Files> Cluster<F> {
                 tablets,
                 most: Fill::NONE,
                 place_cache,
+                merge: None,
+                merge_from: 0,
             }),
             Err(refusal) => Err((refusal, files)),
         }
@@ -174,6 +184,8 @@ impl<F: Files> Cluster<F> {
             tablets: _,
             most: _,
             place_cache: _,
+            merge: _,
+            merge_from: _,
         } = self;
         files
     }

@@ -7,6 +7,7 @@ mod fill;
 mod journal;
 mod place_cache;
 mod recorded;
+mod tablet_merge;
 
 pub use cluster::laws::{
     cells_by_tablet, keeps_following, opens_following, root_is_stored, root_outlasts_flushes,

@@ -17,7 +17,7 @@ use tablet::{BatchLimits, VersionBatch};
 /// these rows. Every call of a cluster but `apply` and `apply_all` keeps it (`keeps_following`) and may be made on the
 /// cluster itself.
 #[derive(Drop)]
-pub struct Recorded<F> {
+pub struct Recorded<F: Files> {
     pub cluster: Cluster<F>,
     pub(crate) journal: Option<Journal>,
 }

@@ -19,7 +19,7 @@ use cell_key::{Refusal, Row, Stamp};
 use commit_log::crc32;
 use file_store::Files;
 use metadata_table::{MetadataTable, Place};
-use sorted_file::refusal_of;
+use sorted_file::{refusal_of, stays_open};
 use std::alloc::Global;
 use tablet::{Tablet, unnamed_may_go};
 
@@ -204,6 +204,7 @@ impl<F: Files> Cluster<F> {
         ensures refusal { IfErr result (IsRefusalOf minor_compaction) }
     {
         unnamed_may_go();
+        stays_open();
         let lengths = file_lengths(self.alloc, &self.table, &mut self.files)?;
         let mut image = Vec::new(self.alloc);
         self.table

@@ -13,6 +13,7 @@ use crate::commands::Command;
 use cell_key::Refusal;
 use file_store::Files;
 use metadata_table::MetadataTable;
+use sorted_file::stays_open;
 use std::alloc::Global;
 use tablet::{Compaction, Tablet, others_stay};
 
@@ -122,6 +123,7 @@ impl<F: Files> Cluster<F> {
             (F.contents self.new.files)) tablet self.old.tablets self.new.tablets) }
     {
         others_stay();
+        stays_open();
         let index = self.position(tablet);
         let names = room_for_names(self.alloc, &self.tablets[index])?;
         compact(

@@ -196,6 +196,8 @@ impl<F: Files> Cluster<F> {
                     tablets,
                     most: Fill::NONE,
                     place_cache,
+                    merge: None,
+                    merge_from: 0,
                 },
                 root.top,
                 root.floor,

@@ -15,7 +15,7 @@ use crate::commands::Command;
 use cell_key::Refusal;
 use file_store::Files;
 use metadata_table::{MetadataTable, Root, one_root};
-use sorted_file::refusal_of;
+use sorted_file::{refusal_of, stays_open};
 use std::alloc::Global;
 use tablet::unnamed_may_go;
 
@@ -101,7 +101,7 @@ fn names_of<F: Files>(alloc: Global, files: &mut F) -> Result<Vec<u64>, Refusal>
 
 impl<F: Files> Cluster<F> {
     /// Removes the files that no tablet has, and answers how many they were. The root, 0, stays. No cell changes
-    /// (Bigtable: files that no tablet has are removed by mark and sweep).
+    /// (Bigtable: files that no tablet has are removed by mark and sweep). A merge that reads such a file is given up.
     ///
     /// # Errors
     ///
@@ -111,13 +111,16 @@ impl<F: Files> Cluster<F> {
         ensures { IsOutcome F.contents F.faults Command.Sweep (swept_of result) self.old self.new }
     {
         unnamed_may_go();
+        stays_open();
+        self.give_up_unlisted();
         let _ = self.table.len();
         let names = names_of(self.alloc, &mut self.files)?;
         remove_unkept(None, &self.table, names, &mut self.files)
     }
 
     /// Removes the files that neither a tablet nor the root file has, and answers how many they were. So the store of
-    /// the root file stays whole, whatever was merged away since it was put. No cell changes.
+    /// the root file stays whole, whatever was merged away since it was put. No cell changes. A merge that reads a file
+    /// that no tablet has is given up.
     ///
     /// # Errors
     ///
@@ -128,6 +131,8 @@ impl<F: Files> Cluster<F> {
     {
         unnamed_may_go();
         one_root();
+        stays_open();
+        self.give_up_unlisted();
         let _ = self.table.len();
         let root = read_root(self.alloc, &mut self.files)?;
         let names = names_of(self.alloc, &mut self.files)?;

@@ -1,6 +1,6 @@
 //! Upkeep of tablets: minor compactions of full memtables, and merging compactions as a policy says.
 
-ghost use Rattle.std.specs.Prelude.{◌≡◌, ◌<◌, ℕ, Some, IsTrue, true, length};
+ghost use Rattle.std.specs.Prelude.{◌≡◌, ◌<◌, ◌≤◌, ℕ, Some, IsTrue, true, length};
 ghost use Rattle.std.specs.List.{slice_get};
 ghost use Rattle.metadata_table.specs.Table.{HasTablet};
 ghost use Rattle.row_atomic.specs.Changes.{Numbered};
@@ -43,6 +43,13 @@ impl<F: Files> Cluster<F> {
         ensures { IsTrue (is_any_full limits self.now.tablets) → IsTrue result }
     {
         self.most.reaches(limits)
+    }
+
+    /// A number of bytes that no tablet's memtable exceeds. Asks no tablet.
+    pub fn filled(&self) -> usize
+        ensures { largest self.now.tablets ≤ result }
+    {
+        self.most.bytes
     }
 
     /// Whether some tablet's memtable is full, so that `compact_full` would compact it. No tablet is asked if none can
@@ -93,7 +100,7 @@ impl<F: Files> Cluster<F> {
     }
 
     /// How many of a tablet's newest files the policy has merged; 0 if there is nothing to merge.
-    fn merge_count(&self, tablet: u32, policy: MergePolicy) -> u32
+    pub(crate) fn merge_count(&self, tablet: u32, policy: MergePolicy) -> u32
         requires known { HasTablet tablet self.now.places }
         ensures { Numbered (λ t. IsMergeCount policy t result) tablet self.now.tablets }
     {

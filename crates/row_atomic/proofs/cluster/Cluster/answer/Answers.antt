@@ -21,7 +21,7 @@ returns-in-Ok g c =
     let told = c.newest.ensures in
     rw c.in-Newest.is (record {
       still = told.reads.still;
-      answers = λ order. (c.in-Ok.ensures.found (all_readable _ _ _ _ order _), told.reads.kept);
+      answers = λ order. (c.in-Ok.ensures.found (all_readable _ _ _ _ order.0 _), told.reads.kept);
       upholds = told.reads.stays;
       files = tt;
       lists = λ _. stored_lists g.F.Files.contents c.args.self.now c.newest.new.self told.reads.stays;
@@ -34,14 +34,14 @@ pub returns-in-Newest : goal.returns-in-Newest
 returns-in-Newest g c =
     let told = c.newest.ensures in
     rw c.in-Newest.is (read_refused g.F.Files.contents g.F.Files.faults (command.Newest c.in-Newest.row c.in-Newest.family c.in-Newest.qualifier c.in-Newest.lo c.in-Newest.hi) c.newest.result c.in-Err.refusal c.args.self.now c.newest.new.self c.in-Err.is told.reads.still
-    (λ order. (read_undamaged _ c.in-Err.refusal c.in-Err.ensures.refusal (all_readable _ _ _ _ order _), told.reads.kept)) (is_read_refusal _ c.in-Err.refusal c.in-Err.ensures.refusal, told.reads.stays) tt told.reads.stays told.reads.room (λ many. record { due = λ is. told.damaged (c.in-Err.is ∙ err_of _ Damaged is); barred = λ bars. absurd bars; undone = λ is. absurd (many is) }) (is_read_refusal _ c.in-Err.refusal c.in-Err.ensures.refusal) told.reason.later told.reason.device told.reason.told)
+    (λ order. (read_undamaged _ c.in-Err.refusal c.in-Err.ensures.refusal (all_readable _ _ _ _ order.0 _), told.reads.kept)) (is_read_refusal _ c.in-Err.refusal c.in-Err.ensures.refusal, told.reads.stays) tt told.reads.stays told.reads.room (λ many. record { due = λ is. told.damaged (c.in-Err.is ∙ err_of _ Damaged is); barred = λ bars. absurd bars; undone = λ is. absurd (many is) }) (is_read_refusal _ c.in-Err.refusal c.in-Err.ensures.refusal) told.reason.later told.reason.device told.reason.told)
 
 pub returns-in-Ok-next_cell : goal.returns-in-Ok-next_cell
 returns-in-Ok-next_cell g c =
     let told = c.next_cell.ensures in
     rw c.in-NextCell.is (record {
       still = told.reads.still;
-      answers = λ order. (subst (λ after. IsNextCell (cells_shown g.F.Files.contents c.args.self.now) after c.in-Ok-next_cell.found) c.lent.ensures (c.in-Ok-next_cell.ensures.found (λ row from. all_readable _ _ _ _ order row)), told.reads.kept);
+      answers = λ order. (subst (λ after. IsNextCell (cells_shown g.F.Files.contents c.args.self.now) after c.in-Ok-next_cell.found) c.lent.ensures (c.in-Ok-next_cell.ensures.found (λ row from. all_readable _ _ _ _ order.0 row)), told.reads.kept);
       upholds = told.reads.stays;
       files = tt;
       lists = λ _. stored_lists g.F.Files.contents c.args.self.now c.next_cell.new.self told.reads.stays;
@@ -54,14 +54,14 @@ pub returns-in-NextCell : goal.returns-in-NextCell
 returns-in-NextCell g c =
     let told = c.next_cell.ensures in
     rw c.in-NextCell.is (read_refused g.F.Files.contents g.F.Files.faults (command.NextCell c.in-NextCell.after) c.next_cell.result c.in-Err-next_cell.refusal c.args.self.now c.next_cell.new.self c.in-Err-next_cell.is told.reads.still
-    (λ order. (read_undamaged _ c.in-Err-next_cell.refusal c.in-Err-next_cell.ensures.refusal (λ row from. all_readable _ _ _ _ order row), told.reads.kept)) (is_read_refusal _ c.in-Err-next_cell.refusal c.in-Err-next_cell.ensures.refusal, told.reads.stays) tt told.reads.stays told.reads.room (λ many. record { due = λ is. subst (λ after. MeetsDamage (g.F.Files.contents c.args.self.now.files) after 1 c.args.self.now.places c.args.self.now.tablets) c.lent.ensures (told.damaged (c.in-Err-next_cell.is ∙ err_of _ Damaged is)); barred = λ bars. absurd bars; undone = λ is. absurd (many is) }) (is_read_refusal _ c.in-Err-next_cell.refusal c.in-Err-next_cell.ensures.refusal) told.reason.later told.reason.device told.reason.told)
+    (λ order. (read_undamaged _ c.in-Err-next_cell.refusal c.in-Err-next_cell.ensures.refusal (λ row from. all_readable _ _ _ _ order.0 row), told.reads.kept)) (is_read_refusal _ c.in-Err-next_cell.refusal c.in-Err-next_cell.ensures.refusal, told.reads.stays) tt told.reads.stays told.reads.room (λ many. record { due = λ is. subst (λ after. MeetsDamage (g.F.Files.contents c.args.self.now.files) after 1 c.args.self.now.places c.args.self.now.tablets) c.lent.ensures (told.damaged (c.in-Err-next_cell.is ∙ err_of _ Damaged is)); barred = λ bars. absurd bars; undone = λ is. absurd (many is) }) (is_read_refusal _ c.in-Err-next_cell.refusal c.in-Err-next_cell.ensures.refusal) told.reason.later told.reason.device told.reason.told)
 
 pub returns-in-Apply : goal.returns-in-Apply
 returns-in-Apply g c =
     let told = c.apply.ensures in
     rw c.in-Apply.is (of_done g.F.Files.contents g.F.Files.faults _ _ _ _ _ c.done.ensures (applied g.F.Files.contents g.F.Files.faults c.in-Apply.row c.in-Apply.edits c.args.self.now c.apply.new.self c.apply.result
     (either_way c.apply.result (on_ok_weaker c.apply.result (λ made. made.still) told.ok) (on_err_weaker c.apply.result (λ same. same.still) told.err))
-    (λ order. on_ok_weaker c.apply.result (λ made. made.made (all_readable _ _ _ _ order _)) told.ok) (λ order. on_err_weaker c.apply.result (λ same. same.kept) told.err)
+    (λ order. on_ok_weaker c.apply.result (λ made. made.made (all_readable _ _ _ _ order.0 _)) told.ok) (λ order. on_err_weaker c.apply.result (λ same. same.kept) told.err)
     (either_way c.apply.result (on_ok_weaker c.apply.result (λ made. made.stays) told.ok) (on_err_weaker c.apply.result (λ same. same.stays) told.err))
     told.full told.within (on_ok_weaker c.apply.result (λ made. made.room) told.ok) (on_err_weaker c.apply.result (λ same. same.room) told.err) told.refusal told.untouched))
 

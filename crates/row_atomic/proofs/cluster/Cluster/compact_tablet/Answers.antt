@@ -20,6 +20,7 @@ use Rattle.row_atomic.specs.declared.commands.Outcome.TheVariants.{Done}
 use Rattle.row_atomic.proofs.Outcomes.{compacted, full_meets, known_refusal, refused_done, tells_done, tells_refused, uncompacted, unstarted}
 use Rattle.row_atomic.proofs.PassedRefusals.{none_answered}
 use Rattle.row_atomic.proofs.CompactionRoom.{numbered_not, numbered_that}
+use Rattle.row_atomic.proofs.MergeStates.{beside, used_still}
 use Rattle.row_atomic.proofs.Memtables.{set_made, set_same}
 use Rattle.row_atomic.proofs.PlaceCaches.{held_listed}
 use Rattle.row_atomic.proofs.cluster.Cluster.compact_tablet.Goals as goal
@@ -115,8 +116,10 @@ returns-in_err-compact-clause-outcome g c =
     let within : ¬ (e ≡ BadCount) = λ is. counted (numbered_old c.self.inside.tablets.items c.position-index.result c.index_mut.result.now c.compact.new.tablet there (MeetsBadCount c.args.compaction) c.args.tablet at.number (refused.refused.count is)) in
     rw (← c.self.view_is) (refused_done g.F.Files.contents g.F.Files.faults _ c.from_residual-in_err-compact.result e e _ _ c.from_residual-in_err-compact.ensures.1 refl
     (uncompacted g.F.Files.contents g.F.Files.faults c.args.tablet _ _ c.args.compaction e
-    (λ order. stays c.self.inside.tablets.items c.position-index.result c.index_mut.result.now c.compact.new.tablet there c.others_stay.ensures (g.F.Files.contents c.self.inside.files) (g.F.Files.contents c.compact.new.files) c.self.inside.next_name c.compact.new.next_name c.compact.ensures.name c.compact.ensures.keeps order)
-    (λ order is. undamaged (g.F.Files.contents c.self.inside.files) c.self.inside.next_name c.self.inside.tablets.items order c.position-index.result c.index_mut.result.now _ there refused.refused.damaged is)
+    (λ holds. beside
+    (used_still c.stays_open.ensures (g.F.Files.contents c.self.inside.files) (g.F.Files.contents c.compact.new.files) c.self.inside.file_limit c.self.inside.next_name c.compact.new.next_name c.self.inside.merge c.compact.ensures.name holds.1)
+    (stays c.self.inside.tablets.items c.position-index.result c.index_mut.result.now c.compact.new.tablet there c.others_stay.ensures (g.F.Files.contents c.self.inside.files) (g.F.Files.contents c.compact.new.files) c.self.inside.next_name c.compact.new.next_name c.compact.ensures.name c.compact.ensures.keeps holds.0))
+    (λ holds is. undamaged (g.F.Files.contents c.self.inside.files) c.self.inside.next_name c.self.inside.tablets.items holds.0 c.position-index.result c.index_mut.result.now _ there refused.refused.damaged is)
     refused.refusal
     (record { places = refl; tablets = parts_stay c.self.inside.tablets.items c.position-index.result c.index_mut.result.now c.compact.new.tablet there refused.err })
     (record { name = c.compact.ensures.name; limit = refl; none = λ none. (c.compact.ensures.empty (numbered_that c.self.inside.tablets.items c.position-index.result c.index_mut.result.now there (WritesNone c.args.compaction) c.args.tablet at.number none)).1; spots = refl })
@@ -142,8 +145,10 @@ returns-clause-outcome g c =
     let at = rw (← c.self.view_is) at c.position-index.ensures in
     let there = found_there c.self.inside.tablets.items c.position-index.result at.tablet c.index_mut.result.now at.there c.index_mut.ensures.value in
     rw (← c.self.view_is) (compacted g.F.Files.contents g.F.Files.faults c.args.tablet _ _ c.args.compaction
-    (λ order. stays c.self.inside.tablets.items c.position-index.result c.index_mut.result.now c.compact.new.tablet there c.others_stay.ensures (g.F.Files.contents c.self.inside.files) (g.F.Files.contents c.compact.new.files) c.self.inside.next_name c.compact.new.next_name c.compact.ensures.name c.compact.ensures.keeps order)
-    (record { made = remade c.self.inside.tablets.items c.position-index.result c.index_mut.result.now c.compact.new.tablet there (IsMade c.args.compaction c.self.inside.next_name) c.args.tablet at.number c.in_ok-compact.ensures.done.made; lists = remade c.self.inside.tablets.items c.position-index.result c.index_mut.result.now c.compact.new.tablet there (Compacts c.args.compaction (g.F.Files.contents c.self.inside.files) c.self.inside.next_name (g.F.Files.contents c.compact.new.files)) c.args.tablet at.number c.in_ok-compact.ensures.done.lists; cleaned = λ order. numbered_new c.self.inside.tablets.items c.position-index.result c.index_mut.result.now c.compact.new.tablet there (IsCleaned c.args.compaction (g.F.Files.contents c.compact.new.files)) c.args.tablet at.number (in_order _ (g.F.Files.contents c.self.inside.files) c.self.inside.next_name c.self.inside.tablets.items c.position-index.result c.index_mut.result.now there order c.in_ok-compact.ensures.done.cleaned) })
+    (λ holds. beside
+    (used_still c.stays_open.ensures (g.F.Files.contents c.self.inside.files) (g.F.Files.contents c.compact.new.files) c.self.inside.file_limit c.self.inside.next_name c.compact.new.next_name c.self.inside.merge c.compact.ensures.name holds.1)
+    (stays c.self.inside.tablets.items c.position-index.result c.index_mut.result.now c.compact.new.tablet there c.others_stay.ensures (g.F.Files.contents c.self.inside.files) (g.F.Files.contents c.compact.new.files) c.self.inside.next_name c.compact.new.next_name c.compact.ensures.name c.compact.ensures.keeps holds.0))
+    (record { made = remade c.self.inside.tablets.items c.position-index.result c.index_mut.result.now c.compact.new.tablet there (IsMade c.args.compaction c.self.inside.next_name) c.args.tablet at.number c.in_ok-compact.ensures.done.made; lists = remade c.self.inside.tablets.items c.position-index.result c.index_mut.result.now c.compact.new.tablet there (Compacts c.args.compaction (g.F.Files.contents c.self.inside.files) c.self.inside.next_name (g.F.Files.contents c.compact.new.files)) c.args.tablet at.number c.in_ok-compact.ensures.done.lists; cleaned = λ holds. numbered_new c.self.inside.tablets.items c.position-index.result c.index_mut.result.now c.compact.new.tablet there (IsCleaned c.args.compaction (g.F.Files.contents c.compact.new.files)) c.args.tablet at.number (in_order _ (g.F.Files.contents c.self.inside.files) c.self.inside.next_name c.self.inside.tablets.items c.position-index.result c.index_mut.result.now there holds.0 c.in_ok-compact.ensures.done.cleaned) })
     (record {
       name = c.compact.ensures.name;
       limit = refl;

@@ -11,6 +11,7 @@ use Rattle.row_atomic.proofs.RowAnswers.{found_there, index_below}
 use Rattle.row_atomic.proofs.ChangedTablets.{if_err, matched_unchanged, numbered_old}
 use Rattle.row_atomic.specs.Changes.{IsHalved, IsOutOfOrder}
 use Rattle.row_atomic.specs.Memtables.{HaveAtMost}
+use Rattle.row_atomic.proofs.MergeStates.{beside, told_still}
 use Rattle.row_atomic.proofs.Memtables.{set_emptied, set_same, with_emptied}
 use Rattle.row_atomic.proofs.ListRoom.{appended, listed_has, ready}
 use Rattle.row_atomic.proofs.LeftTablets.{cut_in_two, holder_unchanged}
@@ -100,7 +101,8 @@ pub returns-in_err-part-clause-kept : goal.returns-in_err-part-clause-kept
 returns-in_err-part-clause-kept g c =
     let at = rw (← c.self.view_is) at c.position-index.ensures in
     let there = found_there c.self.inside.tablets.items c.position-index.result at.tablet c.index_mut.result.now at.there c.index_mut.ensures.value in
-    rw (← c.self.view_is) (stays_over c.self.inside.tablets.items c.self.inside.tablets.items refl c.position-index.result c.index_mut.result.now c.cut.new.self there c.others_stay.ensures (g.F.Files.contents c.self.inside.files) (g.F.Files.contents c.cut.new.files) c.self.inside.next_name c.self.inside.next_name (inl (refl, c.cut.ensures.reads.same)) (c.in_err-part.ensures.keeps c.self.inside.next_name))
+    rw (← c.self.view_is) (λ holds. beside (told_still (g.F.Files.contents c.self.inside.files) (g.F.Files.contents c.cut.new.files) c.self.inside.file_limit c.self.inside.next_name c.self.inside.merge c.cut.ensures.reads.same holds.1)
+    (stays_over c.self.inside.tablets.items c.self.inside.tablets.items refl c.position-index.result c.index_mut.result.now c.cut.new.self there c.others_stay.ensures (g.F.Files.contents c.self.inside.files) (g.F.Files.contents c.cut.new.files) c.self.inside.next_name c.self.inside.next_name (inl (refl, c.cut.ensures.reads.same)) (c.in_err-part.ensures.keeps c.self.inside.next_name) holds.0))
 
 pub returns-in_err-part-clause-damaged : goal.returns-in_err-part-clause-damaged
 returns-in_err-part-clause-damaged g c =
@@ -177,8 +179,9 @@ returns-clause-kept g c =
     let there = found_there c.self.inside.tablets.items c.position-index.result at.tablet c.index_mut.result.now at.there c.index_mut.ensures.value in
     let moved : c.append.new.self.items ≡ set c.self.inside.tablets.items c.position-index.result c.cut.new.self = appended c.append.result _ _ _ _ c.append.ensures.items c.unwrap.ensures (rw (← c.self.view_is) at c.requires.room).space.empty in
     let pushed : c.push_reserved.new.self.items ≡ (set c.self.inside.tablets.items c.position-index.result c.cut.new.self ++ c.in_ok-part.part ∷ []) = c.push_reserved.ensures.items ∙ ap (λ (ys : List Tablet). ys ++ c.in_ok-part.part ∷ []) moved in
-    rw (← c.self.view_is) (λ order. subst (λ (ys : List Tablet). InOrder (g.F.Files.contents c.cut.new.files) c.self.inside.next_name ys × (cells_in (g.F.Files.contents c.cut.new.files) ys ≡ cells_in (g.F.Files.contents c.self.inside.files) c.self.inside.tablets.items)) (sym pushed)
-    (parts_keep c.self.inside.table c.self.inside.tablets.items c.position-index.result c.index_mut.result.now c.in_ok-part.part c.cut.new.self c.args.row.now (view_of c.locate.result.now) table there holder at.number c.in_ok-part.ensures.left_range c.in_ok-part.ensures.right_range c.stays_in_range.ensures c.others_stay.ensures (g.F.Files.contents c.self.inside.files) (g.F.Files.contents c.cut.new.files) c.self.inside.next_name c.self.inside.next_name c.self.invariant.0.placed c.self.invariant.0.as_many (inl (refl, c.cut.ensures.reads.same)) (c.in_ok-part.ensures.parts c.self.inside.next_name) order))
+    rw (← c.self.view_is) (λ holds. beside (told_still (g.F.Files.contents c.self.inside.files) (g.F.Files.contents c.cut.new.files) c.self.inside.file_limit c.self.inside.next_name c.self.inside.merge c.cut.ensures.reads.same holds.1)
+    (subst (λ (ys : List Tablet). InOrder (g.F.Files.contents c.cut.new.files) c.self.inside.next_name ys × (cells_in (g.F.Files.contents c.cut.new.files) ys ≡ cells_in (g.F.Files.contents c.self.inside.files) c.self.inside.tablets.items)) (sym pushed)
+    (parts_keep c.self.inside.table c.self.inside.tablets.items c.position-index.result c.index_mut.result.now c.in_ok-part.part c.cut.new.self c.args.row.now (view_of c.locate.result.now) table there holder at.number c.in_ok-part.ensures.left_range c.in_ok-part.ensures.right_range c.stays_in_range.ensures c.others_stay.ensures (g.F.Files.contents c.self.inside.files) (g.F.Files.contents c.cut.new.files) c.self.inside.next_name c.self.inside.next_name c.self.invariant.0.placed c.self.invariant.0.as_many (inl (refl, c.cut.ensures.reads.same)) (c.in_ok-part.ensures.parts c.self.inside.next_name) holds.0)))
 
 pub returns-clause-halved : goal.returns-clause-halved
 returns-clause-halved g c =

@@ -27,7 +27,7 @@ returns-in-Ok-first_tablet-clause-cells g c =
 pub returns-in-Ok-first_tablet-clause-holds : goal.returns-in-Ok-first_tablet-clause-holds
 returns-in-Ok-first_tablet-clause-holds g c =
     let first = c.in-Ok-first_tablet.ensures.tablet in
-    λ told. subst (λ (ts : List Tablet). InOrder (g.F.Files.contents c.args.files) 1 ts) (sym first.alone) (new_in_order first.tablet first.memory first.files (g.F.Files.contents c.args.files) 1 told)
+    λ told. (subst (λ (ts : List Tablet). InOrder (g.F.Files.contents c.args.files) 1 ts) (sym first.alone) (new_in_order first.tablet first.memory first.files (g.F.Files.contents c.args.files) 1 told), tt)
 
 pub returns-in-Ok-first_tablet-clause-name : goal.returns-in-Ok-first_tablet-clause-name
 returns-in-Ok-first_tablet-clause-name g c = refl

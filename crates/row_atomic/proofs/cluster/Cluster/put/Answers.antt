@@ -7,6 +7,7 @@ use Rattle.row_atomic.specs.Changes.{IsOutOfOrder, IsReopened}
 use Rattle.row_atomic.proofs.ChangedTablets.{if_err, numbered_old, remade}
 use Rattle.row_atomic.proofs.CommandSteps.{when_ok}
 use Rattle.metadata_table.specs.Table.{moved}
+use Rattle.row_atomic.proofs.MergeStates.{beside, told_still}
 use Rattle.row_atomic.proofs.Memtables.{set_emptied}
 use Rattle.row_atomic.proofs.MovedTablets.{matched_moved, opened_keeps}
 use Rattle.row_atomic.proofs.PlaceCaches.{none_held}
@@ -39,7 +40,8 @@ returns-clause-kept g c =
     let at = rw (← c.self.view_is) at c.position-index.ensures in
     let there = found_there c.self.inside.tablets.items c.position-index.result at.tablet c.index.result.now at.there c.index.ensures in
     let memory = emptied_at c.self.inside.tablets.items c.args.tablet c.position-index.result c.index.result.now at.number there (rw (← c.self.view_is) at c.requires.flushed) in
-    rw (← c.self.view_is) (opened_keeps c.same_cells.ensures c.self.inside.tablets.items c.position-index.result c.index.result.now c.in_ok-opened.opened there c.in_ok-opened.ensures.range c.in_ok-opened.ensures.names memory c.in_ok-opened.ensures.memory (g.F.Files.contents c.self.inside.files) (g.F.Files.contents c.open_again.new.files) c.self.inside.next_name c.open_again.ensures.reads.same c.in_ok-opened.ensures.holds)
+    rw (← c.self.view_is) (λ holds. beside (told_still (g.F.Files.contents c.self.inside.files) (g.F.Files.contents c.open_again.new.files) c.self.inside.file_limit c.self.inside.next_name c.self.inside.merge c.open_again.ensures.reads.same holds.1)
+    (opened_keeps c.same_cells.ensures c.self.inside.tablets.items c.position-index.result c.index.result.now c.in_ok-opened.opened there c.in_ok-opened.ensures.range c.in_ok-opened.ensures.names memory c.in_ok-opened.ensures.memory (g.F.Files.contents c.self.inside.files) (g.F.Files.contents c.open_again.new.files) c.self.inside.next_name c.open_again.ensures.reads.same c.in_ok-opened.ensures.holds holds.0))
 
 pub returns-clause-opened : goal.returns-clause-opened
 returns-clause-opened g c =
@@ -48,7 +50,8 @@ returns-clause-opened g c =
     rw (← c.self.view_is) (remade c.self.inside.tablets.items c.position-index.result c.index.result.now c.in_ok-opened.opened there IsReopened c.args.tablet at.number (record { memory = c.in_ok-opened.ensures.memory; names = c.in_ok-opened.ensures.names }))
 
 pub returns-in_err-opened-clause-kept : goal.returns-in_err-opened-clause-kept
-returns-in_err-opened-clause-kept g c = rw (← c.self.view_is) (λ order. (still_in_order (g.F.Files.contents c.self.inside.files) (g.F.Files.contents c.open_again.new.files) c.self.inside.next_name c.self.inside.tablets.items c.open_again.ensures.reads.same order, same_cells_in (g.F.Files.contents c.self.inside.files) (g.F.Files.contents c.open_again.new.files) c.self.inside.tablets.items c.open_again.ensures.reads.same))
+returns-in_err-opened-clause-kept g c = rw (← c.self.view_is) (λ holds. beside (told_still (g.F.Files.contents c.self.inside.files) (g.F.Files.contents c.open_again.new.files) c.self.inside.file_limit c.self.inside.next_name c.self.inside.merge c.open_again.ensures.reads.same holds.1)
+    (still_in_order (g.F.Files.contents c.self.inside.files) (g.F.Files.contents c.open_again.new.files) c.self.inside.next_name c.self.inside.tablets.items c.open_again.ensures.reads.same holds.0, same_cells_in (g.F.Files.contents c.self.inside.files) (g.F.Files.contents c.open_again.new.files) c.self.inside.tablets.items c.open_again.ensures.reads.same))
 
 pub returns-in_err-opened-clause-limit : goal.returns-in_err-opened-clause-limit
 returns-in_err-opened-clause-limit g c = rw (← c.self.view_is) refl

@@ -34,7 +34,7 @@ returns-in-Ok-clause-rests g c =
     c.in-Ok.ensures.ok ∙ ap (λ (bytes : List ℕ). with_file root_name bytes (g.F.Files.contents c.file_lengths.new.files)) c.deref-2.ensures.value ∙ ap (with_file root_name c.write_root.new.out.items) c.in_ok-lengths.ensures.same in
     let measured = subst (λ (l : List ℕ). IfSome (g.F.Files.contents c.self.inside.files) (λ m. AreMeasured m (file_names c.self.inside.table) l)) (sym c.deref.ensures.value) c.in_ok-lengths.ensures.measured in
     rw (← c.self.view_is) (
-    put_rests g.F.Files.contents c.args.top c.args.floor (record { files = c.self.inside.files; file_limit = c.self.inside.file_limit; next_name = c.self.inside.next_name; places = c.self.inside.table; tablets = c.self.inside.tablets.items })
+    put_rests g.F.Files.contents c.args.top c.args.floor (record { files = c.self.inside.files; file_limit = c.self.inside.file_limit; next_name = c.self.inside.next_name; places = c.self.inside.table; tablets = c.self.inside.tablets.items; merge = c.self.inside.merge })
     c.put.new.self c.in_ok-write_root.ensures.sound.table c.self.invariant.0 c.unnamed_may_go.ensures c.write_root.new.out.items c.deref.result.now written put measured
     )
 
@@ -50,7 +50,7 @@ returns-clause-whole g c = λ replaces.
           let put : g.F.Files.contents c.put.new.self ≡ with_file root_name c.write_root.new.out.items (g.F.Files.contents c.self.inside.files) =
           is ∙ ap (λ (bytes : List ℕ). with_file root_name bytes (g.F.Files.contents c.file_lengths.new.files)) c.deref-2.ensures.value ∙ ap (with_file root_name c.write_root.new.out.items) c.in_ok-lengths.ensures.same in
           rw (← c.self.view_is) (inr (
-          put_rests g.F.Files.contents c.args.top c.args.floor (record { files = c.self.inside.files; file_limit = c.self.inside.file_limit; next_name = c.self.inside.next_name; places = c.self.inside.table; tablets = c.self.inside.tablets.items })
+          put_rests g.F.Files.contents c.args.top c.args.floor (record { files = c.self.inside.files; file_limit = c.self.inside.file_limit; next_name = c.self.inside.next_name; places = c.self.inside.table; tablets = c.self.inside.tablets.items; merge = c.self.inside.merge })
           c.put.new.self c.in_ok-write_root.ensures.sound.table c.self.invariant.0 c.unnamed_may_go.ensures c.write_root.new.out.items c.deref.result.now written put measured
           ))
           )
@@ -62,8 +62,8 @@ returns-in-Ok-clause-keeps g c =
     c.in-Ok.ensures.ok ∙ ap (λ (bytes : List ℕ). with_file root_name bytes (g.F.Files.contents c.file_lengths.new.files)) c.deref-2.ensures.value ∙ ap (with_file root_name c.write_root.new.out.items) c.in_ok-lengths.ensures.same in
     let quiet = c.in_ok-lengths.ensures.reason.told (not_refused c.in_ok-lengths.lengths Device) in
     rw (← c.self.view_is) (
-    root_keeps g.F.Files.contents g.F.Files.faults (record { files = c.self.inside.files; file_limit = c.self.inside.file_limit; next_name = c.self.inside.next_name; places = c.self.inside.table; tablets = c.self.inside.tablets.items })
-    c.put.new.self c.in_ok-write_root.ensures.sound.table c.self.invariant.0 c.unnamed_may_go.ensures
+    root_keeps g.F.Files.contents g.F.Files.faults (record { files = c.self.inside.files; file_limit = c.self.inside.file_limit; next_name = c.self.inside.next_name; places = c.self.inside.table; tablets = c.self.inside.tablets.items; merge = c.self.inside.merge })
+    c.put.new.self c.in_ok-write_root.ensures.sound.table c.self.invariant.0 c.unnamed_may_go.ensures c.stays_open.ensures
     (inr (subst (λ (told : Option Contents). KeepsOthers root_name (g.F.Files.contents c.self.inside.files) told) (sym put) (put_keeps _ _)))
     (subst (λ (k : ℕ). k ≤ g.F.Files.faults c.put.new.self) quiet c.in-Ok.ensures.cause.later)
     )
@@ -72,8 +72,8 @@ pub returns-clause-keeps : goal.returns-clause-keeps
 returns-clause-keeps g c =
     let quiet = c.in_ok-lengths.ensures.reason.told (not_refused c.in_ok-lengths.lengths Device) in
     rw (← c.self.view_is) (
-    root_keeps g.F.Files.contents g.F.Files.faults (record { files = c.self.inside.files; file_limit = c.self.inside.file_limit; next_name = c.self.inside.next_name; places = c.self.inside.table; tablets = c.self.inside.tablets.items })
-    c.put.new.self c.in_ok-write_root.ensures.sound.table c.self.invariant.0 c.unnamed_may_go.ensures
+    root_keeps g.F.Files.contents g.F.Files.faults (record { files = c.self.inside.files; file_limit = c.self.inside.file_limit; next_name = c.self.inside.next_name; places = c.self.inside.table; tablets = c.self.inside.tablets.items; merge = c.self.inside.merge })
+    c.put.new.self c.in_ok-write_root.ensures.sound.table c.self.invariant.0 c.unnamed_may_go.ensures c.stays_open.ensures
     (inr (subst (λ (told : Option Contents). KeepsOthers root_name told (g.F.Files.contents c.put.new.self)) c.in_ok-lengths.ensures.same c.in-Err.ensures.err))
     (subst (λ (k : ℕ). k ≤ g.F.Files.faults c.put.new.self) quiet c.in-Err.ensures.cause.later)
     )

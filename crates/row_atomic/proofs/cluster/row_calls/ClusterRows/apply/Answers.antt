@@ -54,7 +54,7 @@ returns-clause-ok g c =
     let there = found_there ts c.index_of-index.result at.tablet t at.there c.index_mut.ensures.value in
     let owns = owner_at c.self.inside.table ts row c.index_of-index.result t table c.self.invariant.0.placed c.self.invariant.0.as_many at there in
     rw (← c.self.view_is) (applied_in g.F.Files.contents _ c.index_of-index.result c.apply-done.new.self row edits c.apply-done.result
-    (λ order. apply_still (g.F.Files.contents c.self.inside.files) c.self.inside.next_name ts order c.index_of-index.result t c.apply-done.new.self there c.apply-done.result c.apply-done.ensures.files c.apply-done.ensures.still c.apply-done.ensures.err)
+    (λ held. (apply_still (g.F.Files.contents c.self.inside.files) c.self.inside.next_name ts held.0 c.index_of-index.result t c.apply-done.new.self there c.apply-done.result c.apply-done.ensures.files c.apply-done.ensures.still c.apply-done.ensures.err, held.1))
     (readable_in (g.F.Files.contents c.self.inside.files) c.self.inside.table ts c.index_of-index.result t c.apply-done.new.self there c.apply-done.result c.apply-done.ensures.still)
     (λ whole. apply_answer (g.F.Files.contents c.self.inside.files) ts row c.index_of-index.result t c.apply-done.new.self edits c.apply-done.result owns
     (whole at.place t at.holder (holder_numbered c.self.inside.table ts row c.index_of-index.result t at there)) c.apply-done.ensures.range c.requires c.apply-done.ensures.ok)
