@@ -36,7 +36,7 @@ of_reopened st next mark r = record {
 }
 
 module _ {F N W : Type 0} (files : Files F W) (recover : Recovers) (reopens_shown : (cells : Cells) (st : State) → ShowsCells cells st → ShowsCells cells (reopened st)) where
-  pub serves_from : (rows : Recorded F) (server : Server F N) (last : ℕ) (mark : Option ℕ) (root : RootView) (base : Cells) (edits : List Edit) (st : State) → FollowsLog files.contents root base edits rows → IsReached st
+  pub serves_from : (rows : Recorded F W) (server : Server F N W) (last : ℕ) (mark : Option ℕ) (root : RootView) (base : Cells) (edits : List Edit) (st : State) → FollowsLog files.contents root base edits rows → IsReached st
       → machine_places root.places ≡ st.places → Covers mark root.top → ShowsCells (after_edits base edits) (reopened st) → st.next_tablet ≡ length st.places + 1 → st.top ≤ last → last < end_of_stamps
       → rows_of server ≡ rows → last_of server ≡ last → ((now : State) → ShowsNoSession files.contents rows last last (last + 1) now → Shows files.contents server now) → ServesFrom files mark root base edits st server
   serves_from rows server last mark root base edits st follows reached placed covered shows next_tablet below low same_rows same_last shown =
@@ -65,13 +65,13 @@ module _ {F N W : Type 0} (files : Files F W) (recover : Recovers) (reopens_show
         });
         rooted = record {
           base = base;
-          has = subst (λ (x : Recorded F). HasRoot files.contents root base x.cluster) (sym same_rows) follows.has;
-          placed = follows.placed ∙ ap (λ (x : Recorded F). machine_places x.cluster.places) (sym same_rows);
+          has = subst (λ (x : Recorded F W). HasRoot files.contents root base x.cluster) (sym same_rows) follows.has;
+          placed = follows.placed ∙ ap (λ (x : Recorded F W). machine_places x.cluster.places) (sym same_rows);
         };
-        journal = ap (λ (x : Recorded F). x.journal) same_rows ∙ follows.journal;
+        journal = ap (λ (x : Recorded F W). x.journal) same_rows ∙ follows.journal;
         keeps = record {
           kept = follows.has.kept;
-          on_disk = ap (λ (x : Recorded F). files.contents x.cluster.files) same_rows ∙ follows.has.on_disk;
+          on_disk = ap (λ (x : Recorded F W). files.contents x.cluster.files) same_rows ∙ follows.has.on_disk;
           keeps = follows.has.keeps;
           placed = placed ∙ sym rec.places;
           covered = covered;

@@ -16,7 +16,7 @@ covers_so None last top known within low = cc
 covers_so (Some mark) last top known within low = omega (arith, within, low)
 
 module _ {F N M L W : Type 0} (files : Files F W) (log : Log L) where
-  pub devices_last : (server : DurableServer (Server F N) M L) (st : State) (mark : Option ℕ) → IsSome mark → IsWithinMark server.marks.stored mark → LastsOver files log server st → LastsOn (files.contents (cluster_of server.server).files) mark (log.holds server.log) st
+  pub devices_last : (server : DurableServer (Server F N W) M L) (st : State) (mark : Option ℕ) → IsSome mark → IsWithinMark server.marks.stored mark → LastsOver files log server st → LastsOn (files.contents (cluster_of server.server).files) mark (log.holds server.log) st
   devices_last server st mark known within lasts = record {
     root = lasts.kept.root;
     base = lasts.kept.base;

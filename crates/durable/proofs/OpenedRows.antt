@@ -59,7 +59,7 @@ module _ {F : Type 0} (contents : F → Option Contents) where
     shows = o.shows;
   }
 
-  pub opens_new : (old : ClusterState F) (rows : Recorded F) (top floor : ℕ) (edits : List Edit) → IsNewStore top floor old → edits ≡ [] → spots_of rows.cluster ≡ spots_of old → FollowsLog contents (root_at 0 0 rows.cluster) (cells_shown contents old) edits rows → OpensNew contents top edits rows
+  pub opens_new : {W : Type 0} (old : ClusterState F) (rows : Recorded F W) (top floor : ℕ) (edits : List Edit) → IsNewStore top floor old → edits ≡ [] → spots_of rows.cluster ≡ spots_of old → FollowsLog contents (root_at 0 0 rows.cluster) (cells_shown contents old) edits rows → OpensNew contents top edits rows
   opens_new old rows top floor edits s no_edits spots follows =
       let none = ap (cells_in (contents old.files)) s.tablet.alone ∙ none_in s.tablet.tablet s.tablet.memory s.tablet.files (contents old.files) in
       record {

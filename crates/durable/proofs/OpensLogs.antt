@@ -84,20 +84,20 @@ damage_of_log holds (Some m) (Some n) found same (inr (inl lacks)) = inr (inl (�
 damage_of_log holds (Some m) (Some n) found same (inr (inr later)) = inr (inr (λ records held. subst (λ (rs : List (List ℕ)). ¬ AreUpTo most_stamp rs) (same records held) later))
 
 module _ {F N M L W : Type 0} (files : Files F W) (marks : MarkStore M) (log : Log L) where
-  pub opens_from : LogsEdits → (st : State) (server : Server F N) (mark : MarkView M) (kept : L) (opened : DurableServer (Server F N) M L) → opened.server ≡ server → opened.marks ≡ mark → opened.log ≡ kept → (root : RootView) (base : Cells) (edits given : List Edit) (records : List (List ℕ)) → ServesFrom files (marks.mark mark.marks) root base edits st server
+  pub opens_from : LogsEdits → (st : State) (server : Server F N W) (mark : MarkView M) (kept : L) (opened : DurableServer (Server F N W) M L) → opened.server ≡ server → opened.marks ≡ mark → opened.log ≡ kept → (root : RootView) (base : Cells) (edits given : List Edit) (records : List (List ℕ)) → ServesFrom files (marks.mark mark.marks) root base edits st server
       → root.top ≤ mark.stored → mark.stored ≤ most_stamp → last_of server ≡ mark.covered → CoversStamp mark records mark.covered → ((top : ℕ) → top ≤ mark.covered → CoversWith (marks.mark mark.marks) records top)
       → HoldEdits records edits → AllByRecursion IsStoredEdit edits → log.holds kept records → IsOver records root → AreUpTo most_stamp records → HoldEdits records given → AllByRecursion IsStoredEdit given → HasRoomFor empty_journal given → st.next_tablet ≡ length st.places + 1
       → ((there : RootView) → is_some (journal_of server) ≡ true → IsRooted files.contents server there → waiting_of (journal_of server) ≡ [] → last_of server ≤ mark.covered → HoldsLogged (view_of files.contents) log opened there → IsSettledOver files log opened) → OpensFrom files marks log st opened
   opens_from laws st server mark kept opened same_server same_mark same_log root base edits given records s low limit last covered covers held stored in_log over stamps held_given stored_given room next settle =
       let now = s.next in
       let in_log_now : log.holds opened.log records = subst (λ (l : L). log.holds l records) (sym same_log) in_log in
-      let bytes : spelled_edits given ≡ logged_of (journal_of opened.server) = laws.whole records given edits held_given held stored_given stored ∙ (ap logged_of (sym s.journal) ∙ ap (λ (x : Server F N). logged_of (journal_of x)) (sym same_server)) in
+      let bytes : spelled_edits given ≡ logged_of (journal_of opened.server) = laws.whole records given edits held_given held stored_given stored ∙ (ap logged_of (sym s.journal) ∙ ap (λ (x : Server F N W). logged_of (journal_of x)) (sym same_server)) in
       let top = s.top in
       record {
         next = now;
         reached = s.reached;
         recovered = rw same_server s.recovered;
-        shown = subst (λ (x : Server F N). Shows files.contents x now) (sym same_server) s.shown;
+        shown = subst (λ (x : Server F N W). Shows files.contents x now) (sym same_server) s.shown;
         settled = settle root (ap is_some s.journal) s.rooted (ap waiting_of s.journal) (omega (arith, last)) (record {
           records = records;
           in_log = in_log_now;
@@ -115,7 +115,7 @@ module _ {F N M L W : Type 0} (files : Files F W) (marks : MarkStore M) (log : L
         lasts = record {
           root = root;
           base = base;
-          kept = subst (λ (x : Server F N). KeepsUnder (files.contents (cluster_of x).files) (marks.mark opened.marks.marks) root base now.places) (sym same_server) (subst (λ (m : MarkView M). KeepsUnder (files.contents (cluster_of server).files) (marks.mark m.marks) root base now.places) (sym same_mark) s.keeps);
+          kept = subst (λ (x : Server F N W). KeepsUnder (files.contents (cluster_of x).files) (marks.mark opened.marks.marks) root base now.places) (sym same_server) (subst (λ (m : MarkView M). KeepsUnder (files.contents (cluster_of server).files) (marks.mark m.marks) root base now.places) (sym same_mark) s.keeps);
           records = records;
           in_log = in_log_now;
           over = over;

@@ -9,10 +9,11 @@ use Rattle.commit_log.specs.Edits.{IsStoredEdit, spelled_edit, spelled_edits, sp
 use Rattle.file_store.specs.Store.{Contents}
 use Rattle.metadata_table.specs.Roots.{RootView}
 use Rattle.rows.specs.Calls.{Applies}
+use Rattle.row_atomic.specs.Changes.{Holds}
 use Rattle.row_atomic.specs.Clusters.{ClusterState, storage_of}
 use Rattle.rows.specs.Storage.{Storage}
 use Rattle.row_atomic.specs.Journals.{HasRoomFor, JournalView, all_logged, empty_journal, with_waiting}
-use Rattle.row_atomic.specs.Recorded.{FitsMemtables, OverfillsJournal, OverfillsRecorded, seen_recorded}
+use Rattle.row_atomic.specs.Recorded.{FitsMemtables, Follows, OverfillsJournal, OverfillsRecorded, seen_recorded}
 use Rattle.row_atomic.specs.Roots.{RootIsStored}
 use Rattle.row_atomic.specs.declared.recorded.Recorded.{Recorded}
 use Rattle.durable.specs.Replay.{FollowsLog, HasRoom, Replays, ShowsRoot, logged_journal}
@@ -21,7 +22,7 @@ use Rattle.server_loop.specs.Server.{machine_places}
 -- ---- storage
 
 -- storage without its logged edits
-pub below : {F : Type 0} → (contents : F → Option Contents) → (old new : Recorded F) → (seen_recorded contents).storage new ≡ (seen_recorded contents).storage old → storage_of contents new.cluster ≡ storage_of contents old.cluster
+pub below : {F W : Type 0} → (contents : F → Option Contents) → (old new : Recorded F W) → (seen_recorded contents).storage new ≡ (seen_recorded contents).storage old → storage_of contents new.cluster ≡ storage_of contents old.cluster
 below contents old new same = ap (λ (s : Storage). record s { logged = [] }) same
 
 -- ---- the edits of a journal
@@ -54,8 +55,8 @@ pub handed_on : {T U E : Type 0} (r : Result T E) (e f : E) → IsErrAnd r (λ g
 handed_on (Ok x) e f by is = absurd by
 handed_on (Err g) e f by is = let s : g ≡ f = cc in ap Err (sym by ∙ s)
 
-module _ {F : Type 0} (contents : F → Option Contents) where
-  pub replays_none : (rows : Recorded F) → Replays contents [] rows rows
+module _ {F W : Type 0} (contents : F → Option Contents) where
+  pub replays_none : (rows : Recorded F W) → Replays contents [] rows rows
   replays_none rows = record {
     still = λ held. held;
     made = λ held. refl;
@@ -72,7 +73,7 @@ module _ {F : Type 0} (contents : F → Option Contents) where
           let size : journal.entry_bytes ≡ journal.entry_bytes + 0 = omega arith in
           λ i. Some (record { logged = journal.logged; waiting = bytes i; count = count i; entry_bytes = size i })
 
-  pub replays_one : (edit : Edit) (rest : List Edit) (a b c : Recorded F) → Replays contents (edit ∷ []) a b → Replays contents rest b c → Replays contents (edit ∷ rest) a c
+  pub replays_one : (edit : Edit) (rest : List Edit) (a b c : Recorded F W) → Replays contents (edit ∷ []) a b → Replays contents rest b c → Replays contents (edit ∷ rest) a c
   replays_one edit rest a b c first then = record {
     still = λ held. then.still (first.still held);
     made = λ held. then.made (first.still held) ∙ ap (λ (cells : Cells). after_edits cells rest) (first.made held);
@@ -81,7 +82,7 @@ module _ {F : Type 0} (contents : F → Option Contents) where
     fits = λ f. then.fits (first.fits f);
   }
 
-  pub applied : (row : List ℕ) (edits : List Edit) (old new : Recorded F) → Applies (seen_recorded contents) row edits old new → new.journal ≡ option_map (with_waiting edits) old.journal → (FitsMemtables old → FitsMemtables new) → Replays contents edits old new
+  pub applied : (row : List ℕ) (edits : List Edit) (old new : Recorded F W) → Applies (seen_recorded contents) row edits old new → new.journal ≡ option_map (with_waiting edits) old.journal → (FitsMemtables old → FitsMemtables new) → Replays contents edits old new
   applied row edits old new made written fits = record {
     still = made.still;
     made = λ held. made.made ((seen_recorded contents).each_readable old held row);
@@ -110,8 +111,8 @@ room_first journal edit rest room =
     let all = length-append (spelled_entry edit) (spelled_entries rest) in
     record { edits = omega (arith, edits); bytes = omega (arith, bytes, front, all) }
 
-pub not_full : {F : Type 0} → (rows : Recorded F) (row : List ℕ) (edit : Edit) (rest : List Edit) → FitsMemtables rows → HasRoom rows.journal (edit ∷ rest) → OverfillsRecorded rows row (edit ∷ []) → ⊥
-not_full {F} rows row edit rest fits room over = by rows.journal room (elim over [ inl cluster ↦ fits row (edit ∷ []) cluster | inr journal ↦ journal ])
+pub not_full : {F W : Type 0} → (rows : Recorded F W) (row : List ℕ) (edit : Edit) (rest : List Edit) → FitsMemtables rows → HasRoom rows.journal (edit ∷ rest) → OverfillsRecorded rows row (edit ∷ []) → ⊥
+not_full rows row edit rest fits room over = by rows.journal room (elim over [ inl cluster ↦ fits row (edit ∷ []) cluster | inr journal ↦ journal ])
   where
     by : (journal : Option JournalView) → HasRoom journal (edit ∷ rest) → OverfillsJournal journal (edit ∷ []) → ⊥
     by None room over = over
@@ -120,7 +121,7 @@ not_full {F} rows row edit rest fits room over = by rows.journal room (elim over
 -- ---- a log's edits over the files' cells
 
 module _ {F : Type 0} (contents : F → Option Contents) (stored : RootIsStored contents) where
-  pub starts : (state : ClusterState F) (root : RootView) (base : Cells) → ShowsRoot contents root base state → (seen_recorded contents).holds (record { cluster = state; journal = Some empty_journal })
+  pub starts : (state : ClusterState F) (root : RootView) (base : Cells) → ShowsRoot contents root base state → Holds contents state × Follows contents state (Some empty_journal)
   starts state root base shows = (
     shows.holds,
     record {
@@ -135,7 +136,7 @@ module _ {F : Type 0} (contents : F → Option Contents) (stored : RootIsStored 
     },
   )
 
-  pub follows_log : (old : ClusterState F) (mid : Recorded F) (edits : List Edit) (root : RootView) (base : Cells) → ShowsRoot contents root base old → AllByRecursion IsStoredEdit edits → Replays contents edits (record { cluster = old; journal = Some empty_journal }) mid
+  pub follows_log : {W : Type 0} (old : ClusterState F) (mid : Recorded F W) (edits : List Edit) (root : RootView) (base : Cells) → ShowsRoot contents root base old → AllByRecursion IsStoredEdit edits → Replays contents edits (record { cluster = old; journal = Some empty_journal }) mid
       → FollowsLog contents root base edits (record { cluster = mid.cluster; journal = Some (logged_journal edits) })
   follows_log old mid edits root base shows all made =
       let from = starts old root base shows in

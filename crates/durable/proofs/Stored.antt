@@ -24,6 +24,7 @@ use Rattle.request_codec.specs.declared.requests.Request.{Request as Lent}
 use Rattle.request_codec.specs.declared.requests.Request.TheVariants as lent
 use Rattle.rows.specs.Refusals.{IsReadRefusal}
 use Rattle.tablet.specs.declared.merge_policy.MergePolicy.{MergePolicy}
+use Rattle.tablet.specs.declared.merge_policy.MergePolicy.TheVariants.{AtCount, Levels}
 use Rattle.row_atomic.specs.Changes.{Holds}
 use Rattle.row_atomic.specs.Clusters.{ClusterState, Spot, spot_of, spots_of}
 use Rattle.row_atomic.specs.Commands.{cells_shown}
@@ -71,9 +72,9 @@ same_machine_places old new is = ap (λ (spots : List Spot). map machine_place s
 
 -- ---- a server
 
-module _ {F M : Type 0} (contents : F → Option Contents) where
+module _ {F M W : Type 0} (contents : F → Option Contents) where
   -- the journal leads to the state that is shown
-  pub follows_in : OneRoot → ((cells : Cells) (st : State) → ShowsCells cells st → ShowsCells cells (reopened st)) → (server : Server F M) (root : RootView) (st : State) (journal : Option JournalView) → journal_of server ≡ journal → is_some journal ≡ true → Follows contents (cluster_of server) journal
+  pub follows_in : OneRoot → ((cells : Cells) (st : State) → ShowsCells cells st → ShowsCells cells (reopened st)) → (server : Server F M W) (root : RootView) (st : State) (journal : Option JournalView) → journal_of server ≡ journal → is_some journal ≡ true → Follows contents (cluster_of server) journal
       → IsRooted contents server root → Shows contents server st → lasts.Follows (view_of contents) server root st
   follows_in one reopens server root st None same_journal is follows rooted shown = cc
   follows_in one reopens server root st (Some journal) same_journal is follows rooted shown =
@@ -97,12 +98,12 @@ module _ {F M : Type 0} (contents : F → Option Contents) where
       }
 
   -- the root that files keep is the one that is there
-  pub one_stored : OneRoot → (server : Server F M) (root other : RootView) (base : Cells) (places : List machine.Place) → StoresCells contents server root base places → IsRooted contents server other → root ≡ other
+  pub one_stored : OneRoot → (server : Server F M W) (root other : RootView) (base : Cells) (places : List machine.Place) → StoresCells contents server root base places → IsRooted contents server other → root ≡ other
   one_stored one server root other base places stored rooted = same_root contents one root other base rooted.base (cluster_of server) stored.has rooted.has
 
   -- ---- unchanged roots
 
-  pub stays_rooted : (old new : Server F M) → ((root : RootView) (cells : Cells) → HasRoot contents root cells (cluster_of old) → HasRoot contents root cells (cluster_of new)) → machine_places (cluster_of new).places ≡ machine_places (cluster_of old).places
+  pub stays_rooted : (old new : Server F M W) → ((root : RootView) (cells : Cells) → HasRoot contents root cells (cluster_of old) → HasRoot contents root cells (cluster_of new)) → machine_places (cluster_of new).places ≡ machine_places (cluster_of old).places
       → StaysRooted (view_of contents) old new
   stays_rooted old new stays places = record {
     stored = λ root base ps s. record { has = stays root base s.has; placed = s.placed };
@@ -112,10 +113,10 @@ module _ {F M : Type 0} (contents : F → Option Contents) where
   -- ---- a new root
 
   -- no stamp of the root that is put next is above the last one
-  pub next_low : (server : Server F M) (st : State) → Shows contents server st → top_of server ≤ last_of server
+  pub next_low : (server : Server F M W) (st : State) → Shows contents server st → top_of server ≤ last_of server
   next_low server st shown = let top = shown.shows.top in let is = shown.alone.0 in omega (arith, is, top)
 
-  pub new_root : ((cells : Cells) (st : State) → ShowsCells cells st → ShowsCells cells (reopened st)) → (old new : Server F M) (st : State) → Rests contents (top_of old) (floor_of old) (cluster_of old) (cluster_of new) → machine_places (cluster_of new).places ≡ machine_places (cluster_of old).places → last_of new ≡ last_of old → next_root new ≡ root_at (top_of old) (floor_of old) (cluster_of new)
+  pub new_root : ((cells : Cells) (st : State) → ShowsCells cells st → ShowsCells cells (reopened st)) → (old new : Server F M W) (st : State) → Rests contents (top_of old) (floor_of old) (cluster_of old) (cluster_of new) → machine_places (cluster_of new).places ≡ machine_places (cluster_of old).places → last_of new ≡ last_of old → next_root new ≡ root_at (top_of old) (floor_of old) (cluster_of new)
       → Shows contents old st → HasNewRoot (view_of contents) (next_root new) new st
   new_root reopens old new st rests places last next shown =
       let keeps = rests shown.in_order.0 in
@@ -166,7 +167,7 @@ moved_journal (lent.Move tablet server) old new of p = p
 moved_journal request old new of p = absurd of
 
 -- tablets move without a stamp
-moved_stamp : {F M : Type 0} (contents : F → Option Contents) (mark : M → Option ℕ) (request : Lent) (reply : CodecReply) (old new : Server F M) → MovesTablets request → KeepsOracle contents mark request reply old new → last_of new ≡ last_of old
+moved_stamp : {F M W : Type 0} (contents : F → Option Contents) (mark : M → Option ℕ) (request : Lent) (reply : CodecReply) (old new : Server F M W) → MovesTablets request → KeepsOracle contents mark request reply old new → last_of new ≡ last_of old
 moved_stamp contents mark (lent.Split row) reply old new of p = ap (λ o. o.last) p
 moved_stamp contents mark (lent.Move tablet server) reply old new of p = ap (λ o. o.last) p
 moved_stamp contents mark request reply old new of p = absurd of
@@ -177,13 +178,13 @@ module _ {F M W : Type 0} (files : Files F W) (marks : MarkStore M) (stored : Ro
   by_has (Some made) request reply old new other (inl is) root cells has = (stays made (outcome_of reply) root cells old new is).0 (λ sweep. absurd (other (ap (λ (c : Command). Some c) sweep))) has
   by_has (Some made) request reply old new other (inr none) root cells has = subst (λ (state : ClusterState F). HasRoot files.contents root cells state) (sym none.1) has
 
-  answer_root : (request : Lent) (reply : CodecReply) (old new : Server F M) → request ≢ lent.Checkpoint → command_of request ≢ Some command.Sweep → TendsTablets files request reply old new
+  answer_root : (request : Lent) (reply : CodecReply) (old new : Server F M W) → request ≢ lent.Checkpoint → command_of request ≢ Some command.Sweep → TendsTablets files request reply old new
       → (root : RootView) (cells : Cells) → HasRoot files.contents root cells (cluster_of old) → HasRoot files.contents root cells (cluster_of new)
   answer_root lent.Checkpoint reply old new first other tends = absurd (first refl)
-  answer_root (lent.Status t) reply old new first other tends = λ root cells has. subst (λ (server : Server F M). HasRoot files.contents root cells (cluster_of server)) (sym tends.0) has
+  answer_root (lent.Status t) reply old new first other tends = λ root cells has. subst (λ (server : Server F M W). HasRoot files.contents root cells (cluster_of server)) (sym tends.0) has
   answer_root request reply old new first other tends = by_has (command_of request) request reply (cluster_of old) (cluster_of new) other tends
 
-  reply_leaves : (old new : Server F M) (request : Lent) (reply : CodecReply) → ¬ ActsOnRoots request → IsAnswer files marks old request reply new → (now : State) → IsReached now → Shows files.contents old now
+  reply_leaves : (old new : Server F M W) (request : Lent) (reply : CodecReply) → ¬ ActsOnRoots request → IsAnswer files marks old request reply new → (now : State) → IsReached now → Shows files.contents old now
       → StaysRooted (view_of files.contents) old new × (logged_of (journal_of new) ≡ logged_of (journal_of old))
   reply_leaves old new request reply other answer now reached shown =
       let plain = answer.plain in
@@ -193,21 +194,21 @@ module _ {F M W : Type 0} (files : Files F W) (marks : MarkStore M) (stored : Ro
         plain_logged request (journal_of old) (journal_of new) other plain.logged,
       )
 
-  at_once_leaves : (old new : Server F M) → LeavesOthers files.contents old new → StaysRooted (view_of files.contents) old new × (logged_of (journal_of new) ≡ logged_of (journal_of old))
+  at_once_leaves : (old new : Server F M W) → LeavesOthers files.contents old new → StaysRooted (view_of files.contents) old new × (logged_of (journal_of new) ≡ logged_of (journal_of old))
   at_once_leaves old new others = (
     stays_rooted files.contents old new (λ root cells has. (stored root cells (cluster_of old) (cluster_of new) others.storage).0 has) (ap (λ (s : Storage). machine_places s.places) others.storage),
     others.logged,
   )
 
   -- an answer that puts no root and removes no file
-  pub answer_leaves : (old new : Server F M) (operation : LentOperation) (answer : CodecAnswer) → ¬ TouchesRoots operation → IsAnswerTo files marks old operation answer new → (now : State) → IsReached now → Shows files.contents old now
+  pub answer_leaves : (old new : Server F M W) (operation : LentOperation) (answer : CodecAnswer) → ¬ TouchesRoots operation → IsAnswerTo files marks old operation answer new → (now : State) → IsReached now → Shows files.contents old now
       → StaysRooted (view_of files.contents) old new × (logged_of (journal_of new) ≡ logged_of (journal_of old))
   answer_leaves old new (operations.One request) (given.Said reply) other is now reached shown = reply_leaves old new request reply other is now reached shown
   answer_leaves old new (operations.One request) answer other is now reached shown = absurd is
   answer_leaves old new (operations.Commit start writes) answer other is now reached shown = at_once_leaves old new is.plain.at_once.others
   answer_leaves old new (operations.Read start cells stays_open) answer other is now reached shown = at_once_leaves old new is.plain.at_once.others
 
-  pub answer_moves : (old new : Server F M) (request : Lent) (reply : CodecReply) → MovesTablets request → IsAnswer files marks old request reply new
+  pub answer_moves : (old new : Server F M W) (request : Lent) (reply : CodecReply) → MovesTablets request → IsAnswer files marks old request reply new
       → StaysStored (view_of files.contents) old new × KeepsJournal (view_of files.contents) old new
   answer_moves old new request reply of answer =
       let plain = answer.plain in
@@ -228,9 +229,11 @@ module _ {F : Type 0} (contents : F → Option Contents) (faults : F → ℕ) (f
   merges_root : (due : Bool) (policy : Option MergePolicy) (old new : ClusterState F) → MergesWhere due contents faults policy old new → (root : RootView) (cells : Cells) → HasRoot contents root cells old → HasRoot contents root cells new
   merges_root false policy old new same root cells has = subst (λ (state : ClusterState F). HasRoot contents root cells state) (sym same) has
   merges_root true None old new same root cells has = subst (λ (state : ClusterState F). HasRoot contents root cells state) (sym same) has
-  merges_root true (Some policy) old new made root cells has = merge root cells old new policy made has
+  merges_root true (Some (AtCount count)) old new made root cells has = merge root cells old new (AtCount count) made has
+  merges_root true (Some Levels) old new (inl same) root cells has = subst (λ (state : ClusterState F). HasRoot contents root cells state) (sym same) has
+  merges_root true (Some Levels) old new (inr step) root cells has = step.2 root cells has
 
-  pub tended_leaves : {M : Type 0} (old new : Server F M) → IsTended contents faults old new
+  pub tended_leaves : {M W : Type 0} (old new : Server F M W) → IsTended contents faults old new
       → StaysRooted (view_of contents) old new × (logged_of (journal_of new) ≡ logged_of (journal_of old)) × ((st : State) → Shows contents old st → Shows contents new st)
   tended_leaves old new tended = (
     stays_rooted contents old new (λ root cells has. merges_root _ _ tended.compacted (cluster_of new) tended.merges root cells (((flushes root cells (cluster_of old) tended.compacted).0 _ tended.compacts).0 has))
@@ -259,20 +262,20 @@ module _ {F : Type 0} (contents : F → Option Contents) (laws : LogsEdits) wher
         such = subst (λ (es : List Edit). Tracks contents state es) same follows.such;
       }
 
-module _ {F M : Type 0} (contents : F → Option Contents) where
+module _ {F M W : Type 0} (contents : F → Option Contents) where
   -- the same server with other rows, of the same cluster
-  same_cluster : (old : Server F M) (rows : Recorded F) → rows.cluster ≡ cluster_of old → StaysRooted (view_of contents) old (record old { rows = rows })
+  same_cluster : (old : Server F M W) (rows : Recorded F W) → rows.cluster ≡ cluster_of old → StaysRooted (view_of contents) old (record old { rows = rows })
   same_cluster old rows is = stays_rooted contents old (record old { rows = rows }) (λ root cells has. subst (λ (state : ClusterState F). HasRoot contents root cells state) (sym is) has) (ap (λ (state : ClusterState F). machine_places state.places) is)
 
-  pub same_rows : (old new : Server F M) (rows : Recorded F) → new ≡ record old { rows = rows } → rows.cluster ≡ cluster_of old → StaysRooted (view_of contents) old new
-  same_rows old new rows is same = subst (λ (server : Server F M). StaysRooted (view_of contents) old server) (sym is) (same_cluster old rows same)
+  pub same_rows : (old new : Server F M W) (rows : Recorded F W) → new ≡ record old { rows = rows } → rows.cluster ≡ cluster_of old → StaysRooted (view_of contents) old new
+  same_rows old new rows is same = subst (λ (server : Server F M W). StaysRooted (view_of contents) old server) (sym is) (same_cluster old rows same)
 
   -- a state shown without a journal is shown with one that follows
-  pub remembers : (server : Server F M) (st : State) → Shows contents (forgets server) st → Follows contents (cluster_of server) (journal_of server) → Shows contents server st
+  pub remembers : (server : Server F M W) (st : State) → Shows contents (forgets server) st → Follows contents (cluster_of server) (journal_of server) → Shows contents server st
   remembers server st shown follows = record { in_order = (shown.in_order.0, follows); shows = shown.shows; alone = shown.alone; cleaners = shown.cleaners; collectors = shown.collectors; places = shown.places; next = shown.next }
 
-  pub logged_shows : LogsEdits → (server now : Server F M) (st : State) → now ≡ record server { rows = record { cluster = cluster_of server; journal = option_map all_logged (journal_of server) } } → Shows contents server st → Shows contents now st
-  logged_shows laws server now st is shown = subst (λ (s : Server F M). Shows contents s st) (sym is) (record {
+  pub logged_shows : LogsEdits → (server now : Server F M W) (st : State) → now ≡ record server { rows = record { cluster = cluster_of server; journal = option_map all_logged (journal_of server) } } → Shows contents server st → Shows contents now st
+  logged_shows laws server now st is shown = subst (λ (s : Server F M W). Shows contents s st) (sym is) (record {
     in_order = (shown.in_order.0, follows_logged contents laws (cluster_of server) (journal_of server) shown.in_order.1);
     shows = shown.shows;
     alone = shown.alone;
@@ -284,7 +287,7 @@ module _ {F M : Type 0} (contents : F → Option Contents) where
 
 -- ---- checkpoints
 
-module _ {F M W : Type 0} (files : Files F W) (marks : MarkStore M) (reopens : (cells : Cells) (st : State) → ShowsCells cells st → ShowsCells cells (reopened st)) (old new : Server F M) (spots : spots_of (cluster_of new) ≡ spots_of (cluster_of old)) where
+module _ {F M W : Type 0} (files : Files F W) (marks : MarkStore M) (reopens : (cells : Cells) (st : State) → ShowsCells cells st → ShowsCells cells (reopened st)) (old new : Server F M W) (spots : spots_of (cluster_of new) ≡ spots_of (cluster_of old)) where
   abbrev NewRoot : State → Type 0
   NewRoot st = HasNewRoot (view_of files.contents) (next_root new) new st
 
@@ -312,7 +315,7 @@ module _ {F M W : Type 0} (files : Files F W) (marks : MarkStore M) (reopens : (
       ]
 
 -- a checkpoint of the files is one under a log
-module _ {F M W : Type 0} (files : Files F W) (marks : MarkStore M) (reopens : (cells : Cells) (st : State) → ShowsCells cells st → ShowsCells cells (reopened st)) (replaces : files.replaces) (old new : Server F M) where
+module _ {F M W : Type 0} (files : Files F W) (marks : MarkStore M) (reopens : (cells : Cells) (st : State) → ShowsCells cells st → ShowsCells cells (reopened st)) (replaces : files.replaces) (old new : Server F M W) where
   keeps_journal : (journal : journal_of new ≡ journal_of old) → last_of new ≡ last_of old → KeepsJournal (view_of files.contents) old new
   keeps_journal journal stamp = record {
     goes_on = ap (λ (j : Option JournalView). is_some j) journal;
@@ -347,7 +350,7 @@ read_storage (Err NoMemory) read = tt
 read_storage (Err Damaged) read = tt
 read_storage (Err _) read = absurd read
 
-module _ {F M : Type 0} (contents : F → Option Contents) (faults : F → ℕ) (law : RootOutlastsSweeps contents faults) (old new : Server F M) (result : Result ℕ Refusal) (swept : SweepsBesideRoot contents faults result (cluster_of old) (cluster_of new)) where
+module _ {F M W : Type 0} (contents : F → Option Contents) (faults : F → ℕ) (law : RootOutlastsSweeps contents faults) (old new : Server F M W) (result : Result ℕ Refusal) (swept : SweepsBesideRoot contents faults result (cluster_of old) (cluster_of new)) where
   -- a server with a journal has a root, so its root file is one
   pub swept_sound : is_some (journal_of old) ≡ true → Follows contents (cluster_of old) (journal_of old) → ¬ IsErrOf result Damaged
   swept_sound = go (journal_of old)
@@ -356,11 +359,11 @@ module _ {F M : Type 0} (contents : F → Option Contents) (faults : F → ℕ) 
       go None some follows = cc
       go (Some journal) some follows = law.whole follows.such.root follows.such.base result (cluster_of old) (cluster_of new) swept follows.such.has
 
-pub sweep_keeps : {F M : Type 0} (contents : F → Option Contents) (old new : Server F M) → new ≡ record old { rows = record (rows_of old) { cluster = cluster_of new } }
+pub sweep_keeps : {F M W : Type 0} (contents : F → Option Contents) (old new : Server F M W) → new ≡ record old { rows = record (rows_of old) { cluster = cluster_of new } }
     → KeepsJournal (view_of contents) old new
 sweep_keeps contents old new others = record {
-  goes_on = ap (λ (s : Server _ _). is_some (journal_of s)) others;
-  has = ap (λ (s : Server _ _). logged_of (journal_of s)) others;
-  waits = ap (λ (s : Server _ _). waiting_of (journal_of s)) others;
-  stamp = ap (λ (s : Server _ _). last_of s) others;
+  goes_on = ap (λ (s : Server _ _ _). is_some (journal_of s)) others;
+  has = ap (λ (s : Server _ _ _). logged_of (journal_of s)) others;
+  waits = ap (λ (s : Server _ _ _). waiting_of (journal_of s)) others;
+  stamp = ap (λ (s : Server _ _ _). last_of s) others;
 }

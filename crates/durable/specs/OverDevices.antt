@@ -21,39 +21,40 @@ use Rattle.server_loop.specs.declared.statuses.ServeFault.{ServeFault}
 
 module _ {F N M L W : Type 0} (files : Files F W) (log : Log L) where
   -- Its devices keep a state through a kill.
-  abbrev pub LastsOver : DurableServer (Server F N) M L → State → Type 0
+  abbrev pub LastsOver : DurableServer (Server F N W) M L → State → Type 0
   LastsOver = LastsIn (view_of files.contents) log
 
-  abbrev pub LogsOver : DurableServer (Server F N) M L → Type 0
+  abbrev pub LogsOver : DurableServer (Server F N W) M L → Type 0
   LogsOver = Logs (view_of files.contents) log
 
   -- Its devices keep each state that it shows.
-  abbrev pub IsSettledOver : DurableServer (Server F N) M L → Type 0
+  abbrev pub IsSettledOver : DurableServer (Server F N W) M L → Type 0
   IsSettledOver server = IsSettled (shown_by (Shows files.contents)) LastsOver LogsOver server
 
 -- The oracle of the server inside has a mark of its own, in memory.
 module _ {F N M L W : Type 0} (files : Files F W) (inside : MarkStore N) (marks : MarkStore M)
     (log : Log L) where
-  abbrev pub IsAnswerOver : DurableServer (Server F N) M L → Operation → Answer
-      → DurableServer (Server F N) M L → Type 0
+  abbrev pub IsAnswerOver : DurableServer (Server F N W) M L → Operation → Answer
+      → DurableServer (Server F N W) M L → Type 0
   IsAnswerOver =
       IsDurableAnswer (view_of files.contents) (calls_of files inside) (Shows files.contents)
       (IsAnswerTo files inside) marks log
 
-  abbrev pub IsTendedOver : DurableServer (Server F N) M L → DurableServer (Server F N) M L → Type 0
+  abbrev pub IsTendedOver : DurableServer (Server F N W) M L → DurableServer (Server F N W) M L
+      → Type 0
   IsTendedOver =
       IsDurablyTended (view_of files.contents) (calls_of files inside) (Shows files.contents)
       (IsTended files.contents files.faults) marks log
 
-  abbrev pub ServesOver : DurableServer (Server F N) M L → DurableServer (Server F N) M L
+  abbrev pub ServesOver : DurableServer (Server F N W) M L → DurableServer (Server F N W) M L
       → Option (List ℕ) → Option (List ℕ) → Option (List ℕ) → Option (List ℕ) → ℕ
       → Result End ServeFault → Type 0
   ServesOver =
       ServesDurably (shown_by (Shows files.contents)) IsAnswerOver IsTendedOver
       (LastsOver files log) (LogsOver files log)
 
-  abbrev pub ServesClientsOver : ClientServer (DurableServer (Server F N) M L)
-      → ClientServer (DurableServer (Server F N) M L) → Option (List ℕ) → Option (List ℕ)
+  abbrev pub ServesClientsOver : ClientServer (DurableServer (Server F N W) M L)
+      → ClientServer (DurableServer (Server F N W) M L) → Option (List ℕ) → Option (List ℕ)
       → Option (List ℕ) → Option (List ℕ) → ℕ → Result End ServeFault → Type 0
   ServesClientsOver =
       ServesClientsDurably (shown_by (Shows files.contents)) IsAnswerOver IsTendedOver

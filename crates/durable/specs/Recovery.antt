@@ -76,8 +76,8 @@ NamesTop None top = top ≡ 0
 NamesTop (Some image) top = (root : RootView) × IsRoot root image × (root.top ≡ top)
 
 -- The rows of a new store, with its root put.
-pub record OpensNew {F : Type 0} (contents : F → Option Contents) (top : ℕ) (edits : List Edit)
-    (rows : Recorded F) : Type 0 where
+pub record OpensNew {F W : Type 0} (contents : F → Option Contents) (top : ℕ) (edits : List Edit)
+    (rows : Recorded F W) : Type 0 where
   pub root : RootView
   pub follows : FollowsLog contents root empty edits rows
   pub places : machine_places root.places ≡ new_machine.places
@@ -89,7 +89,7 @@ module _ {F N W : Type 0} (files : Files F W) (mark : Option ℕ) where
   -- A server over cells under a root, and edits. It shows a state that the machine can reach by itself from
   -- the one that these show. The edits are logged, and its files and the mark keep the cells.
   pub record ServesFrom (root : RootView) (base : Cells) (edits : List Edit) (st : State)
-      (server : Server F N) : Type 0 where
+      (server : Server F N W) : Type 0 where
     pub next : State
     pub reached : IsReached next
     pub recovered : IsRecovered (last_of server) st next
@@ -103,7 +103,7 @@ module _ {F N W : Type 0} (files : Files F W) (mark : Option ℕ) where
 module _ {F N M L W : Type 0} (files : Files F W) (marks : MarkStore M) (log : Log L) where
   -- An opened server shows a state that the machine can reach by itself from the kept one. Its answers
   -- last from then on, and its devices keep the state that it shows.
-  pub record OpensFrom (st : State) (opened : DurableServer (Server F N) M L) : Type 0 where
+  pub record OpensFrom (st : State) (opened : DurableServer (Server F N W) M L) : Type 0 where
     pub next : State
     pub reached : IsReached next
     pub recovered : IsRecovered (last_of opened.server) st next

@@ -17,8 +17,8 @@ use Rattle.server_loop.specs.Server.{machine_places}
 -- Edits were made in order, and appended to the journal. If the rows' invariant held it still does, and
 -- the cells are those after the edits. The storage below is unchanged. If the journal had all edits of
 -- the memtables, it still does.
-pub record Replays {F : Type 0} (contents : F → Option Contents) (edits : List Edit)
-    (old new : Recorded F) : Type 0 where
+pub record Replays {F W : Type 0} (contents : F → Option Contents) (edits : List Edit)
+    (old new : Recorded F W) : Type 0 where
   pub still : (seen_recorded contents).holds old → (seen_recorded contents).holds new
   pub made : (seen_recorded contents).holds old
       → cells_shown contents new.cluster ≡ after_edits (cells_shown contents old.cluster) edits
@@ -51,8 +51,8 @@ pub record ShowsRoot {F : Type 0} (contents : F → Option Contents) (root : Roo
 
 -- Rows show the cells that the files keep under a root, after these edits. The root names the tablets'
 -- places. The edits are in the journal, and the log has them.
-pub record FollowsLog {F : Type 0} (contents : F → Option Contents) (root : RootView) (base : Cells)
-    (edits : List Edit) (rows : Recorded F) : Type 0 where
+pub record FollowsLog {F W : Type 0} (contents : F → Option Contents) (root : RootView)
+    (base : Cells) (edits : List Edit) (rows : Recorded F W) : Type 0 where
   pub holds : (seen_recorded contents).holds rows
   pub has : HasRoot contents root base rows.cluster
   pub placed : machine_places root.places ≡ machine_places rows.cluster.places

@@ -20,21 +20,21 @@ use Rattle.server_loop.specs.Checkpoints.{FlushesAll}
 use Rattle.server_loop.specs.Server.{cluster_of, forgets, journal_of, last_of, machine_places, next_root, rows_of}
 use Rattle.server_loop.specs.declared.server.Server.{Server}
 
-module _ {F M : Type 0} (contents : F → Option Contents) where
+module _ {F M W : Type 0} (contents : F → Option Contents) where
   -- The files keep these cells under a root that names these places.
-  pub record StoresCells (server : Server F M) (root : RootView) (base : Cells)
+  pub record StoresCells (server : Server F M W) (root : RootView) (base : Cells)
       (places : List Place) : Type 0 where
     pub has : HasRoot contents root base (cluster_of server)
     pub placed : machine_places root.places ≡ places
 
   -- This root names the places of the server's tablets.
-  pub record IsRooted (server : Server F M) (root : RootView) : Type 0 where
+  pub record IsRooted (server : Server F M W) (root : RootView) : Type 0 where
     pub base : Cells
     pub has : HasRoot contents root base (cluster_of server)
     pub placed : machine_places root.places ≡ machine_places (cluster_of server).places
 
   -- the root's cells are the shown ones
-  abbrev pub IsClean : Server F M → Type 0
+  abbrev pub IsClean : Server F M W → Type 0
   IsClean server = Tracks contents (cluster_of server) []
 
 -- the size of a journal: its bytes, or 671 for each edit if that is more
@@ -42,23 +42,23 @@ abbrev pub journal_size : Option JournalView → ℕ
 journal_size journal = max (bytes_written journal) (min (edits_written journal * 671) (2 ^ 64 - 1))
 
 -- two servers are the same, but for their journals
-abbrev pub IsSame : {F M : Type 0} → Server F M → Server F M → Type 0
+abbrev pub IsSame : {F M W : Type 0} → Server F M W → Server F M W → Type 0
 IsSame a b = forgets a ≡ forgets b
 
 module _ {F M W : Type 0} (files : Files F W) (marks : MarkStore M) where
-  abbrev pub AnswersCheckpoint : Server F M → Reply → Server F M → Type 0
+  abbrev pub AnswersCheckpoint : Server F M W → Reply → Server F M W → Type 0
   AnswersCheckpoint old reply new = IsPlainAnswer files marks old Checkpoint reply (forgets new)
 
 -- Files went that neither a tablet nor the root has, or some of them, and nothing else changed.
-abbrev pub SweepsFiles : {F M : Type 0} → (F → Option Contents) → (F → ℕ) → Server F M
-    → Result ℕ Refusal → Server F M → Type 0
+abbrev pub SweepsFiles : {F M W : Type 0} → (F → Option Contents) → (F → ℕ) → Server F M W
+    → Result ℕ Refusal → Server F M W → Type 0
 SweepsFiles contents faults old result new =
     SweepsBesideRoot contents faults result (cluster_of old) (cluster_of new)
     × (new ≡ record old { rows = record (rows_of old) { cluster = cluster_of new } })
 
 -- ---- the server under a log
 
-abbrev pub view_of : {F M : Type 0} → (F → Option Contents) → View (Server F M)
+abbrev pub view_of : {F M W : Type 0} → (F → Option Contents) → View (Server F M W)
 view_of contents = record {
   stores = StoresCells contents;
   is_rooted = IsRooted contents;
@@ -74,7 +74,7 @@ view_of contents = record {
   same = IsSame;
 }
 
-abbrev pub calls_of : {F M W : Type 0} → Files F W → MarkStore M → RootCalls (Server F M)
+abbrev pub calls_of : {F M W : Type 0} → Files F W → MarkStore M → RootCalls (Server F M W)
 calls_of files marks = record {
   flushes = λ old new. FlushesAll files.contents files.faults old outcome.Done new;
   checkpoints = AnswersCheckpoint files marks;

@@ -30,6 +30,7 @@ ghost use Rattle.server_loop.specs.Opening.{IsLost, LacksRoot};
 ghost use Rattle.durable.specs.Replay.{FollowsLog, ShowsRoot};
 ghost use Rattle.durable.specs.StoredMarks.{IsMarkOf};
 ghost use Rattle.server_loop.specs.Server.{IsConfig, cluster_of, last_of, machine_places, rows_of, tending_of};
+ghost use Rattle.server_loop.specs.Tending.{no_debt};
 
 use crate::atomic_put::AtomicPut;
 use crate::journaled::Journaled;
@@ -313,7 +314,7 @@ fn server_over<F: AtomicPut + Drop>(
     ensures rows { rows_of result ≡ rows }
     ensures last { last_of result ≡ oracle.last }
     ensures tending { tending_of result
-        ≡ record { flush = config.flush; merge = None; merged_to = 0 } }
+        ≡ record { flush = config.flush; merge = None; merged_to = 0; debt = no_debt } }
 {
     recovers();
     shows_reopened();
@@ -367,7 +368,8 @@ fn open_server<F: AtomicPut + Drop, M: MarkStore + Drop>(
     ensures last { IfOk result (λ opened. last_of opened.0 ≡ opened.1.covered) }
     ensures options { IfOk result (λ opened.
         ((cluster_of opened.0).file_limit ≡ config.file_limit)
-        × (tending_of opened.0 ≡ record { flush = config.flush; merge = None; merged_to = 0 })) }
+        × (tending_of opened.0
+        ≡ record { flush = config.flush; merge = None; merged_to = 0; debt = no_debt })) }
     ensures refusal { IfErr result (λ refused. IsStorageRefusal refused.0
         × (HasRootFile (F.contents files) → IsOpeningRefusal refused.0)) }
     ensures told { MatchResult result
@@ -475,7 +477,7 @@ impl<F: AtomicPut + Drop, M: MarkStore + Drop, L: Log + Drop> DurableServer<
         ensures limit { IfOk result (λ opened.
             (cluster_of opened.server).file_limit ≡ config.file_limit) }
         ensures tending { IfOk result (λ opened. tending_of opened.server
-            ≡ record { flush = config.flush; merge = None; merged_to = 0 }) }
+            ≡ record { flush = config.flush; merge = None; merged_to = 0; debt = no_debt }) }
         ensures root_bytes { IfOk result (λ opened. opened.root_bytes ≡ 33554432) }
         ensures upkeep { IfOk result (λ opened. opened.upkeep ≡ false) }
         ensures refusal { IfErr result (λ refused. IsStorageRefusal refused.0) }

@@ -24,7 +24,7 @@ impl<F: AtomicPut + Drop, M: MarkStore + Drop, L: Log + Drop> DurableServer<
     M,
     L,
 > {
-    /// From now on the newest files are merged as by `Server::merge_by`.
+    /// From now on the newest files are merged as by `Server::merge_by`; by levels in steps.
     pub fn merge_by(&mut self, policy: MergePolicy)
         ensures { self.new ≡ record self.old {
           server = record self.old.server {

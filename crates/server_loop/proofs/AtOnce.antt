@@ -96,7 +96,7 @@ IfSaidRefused P answer = ⊥
 pub given_undamaged : {A : Type 0} (result : Result A Refusal) (refusal : Refusal) → result ≡ Err refusal → (IsErrOf result Damaged → ⊥) → Said (Refused refusal) ≡ Said (Refused Damaged) → ⊥
 given_undamaged result refusal is none same = none (subst (IfSaidRefused (λ (r : Refusal). IsErrOf result r)) same is)
 
-module _ {F M : Type 0} (contents : F → Option Contents) (old new : Server F M) where
+module _ {F M W : Type 0} (contents : F → Option Contents) (old new : Server F M W) where
   -- what a call over the rows leaves
   pub others_stay : new.cleaners ≡ old.cleaners → new.collectors ≡ old.collectors → new.tending ≡ old.tending → (seen_recorded contents).storage new.rows ≡ (seen_recorded contents).storage old.rows → LeavesOthers contents old new
   others_stay cleaners collectors tending stays = record {

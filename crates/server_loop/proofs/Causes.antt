@@ -17,8 +17,8 @@ use Rattle.server_loop.proofs.SessionSteps.{IfTold}
 pub refusal_is : (e n : Refusal) → codec.Refused e ≡ codec.Refused n → e ≡ n
 refusal_is e n is = cc
 
-module _ {F M : Type 0} (contents : F → Option Contents) (file_faults : F → ℕ) (mark_faults : M → ℕ) (request : Request) where
-  pub done_causes : (reply : CodecReply) (outcome : Outcome) (old new : Server F M) → new.oracle ≡ old.oracle → (reply ≡ codec.Refused Device → outcome ≡ Refused Device) → (outcome ≡ Refused Device → reply ≡ codec.Refused Device)
+module _ {F M W : Type 0} (contents : F → Option Contents) (file_faults : F → ℕ) (mark_faults : M → ℕ) (request : Request) where
+  pub done_causes : (reply : CodecReply) (outcome : Outcome) (old new : Server F M W) → new.oracle ≡ old.oracle → (reply ≡ codec.Refused Device → outcome ≡ Refused Device) → (outcome ≡ Refused Device → reply ≡ codec.Refused Device)
       → TellsFaults file_faults outcome old.rows.cluster new.rows.cluster → (reply ≡ codec.Refused MemtableFull → LacksRoom contents request old) → (reply ≡ codec.Refused Damaged → ReadsDamage contents request old new) → TellsCauses contents file_faults mark_faults request reply old new
   done_causes reply outcome old new same to from told full damaged = record {
     device = λ is. inl (told.device (to is));
@@ -27,7 +27,7 @@ module _ {F M : Type 0} (contents : F → Option Contents) (file_faults : F → 
     damaged = damaged;
   }
 
-  pub refused_causes : (e : Refusal) (old new : Server F M) → new.oracle ≡ old.oracle → TellsFaults file_faults (Refused e) old.rows.cluster new.rows.cluster
+  pub refused_causes : (e : Refusal) (old new : Server F M W) → new.oracle ≡ old.oracle → TellsFaults file_faults (Refused e) old.rows.cluster new.rows.cluster
       → (codec.Refused e ≡ codec.Refused MemtableFull → LacksRoom contents request old) → (codec.Refused e ≡ codec.Refused Damaged → ReadsDamage contents request old new) → TellsCauses contents file_faults mark_faults request (codec.Refused e) old new
   refused_causes e old new same told full damaged =
       done_causes (codec.Refused e) (Refused e) old new same
@@ -35,7 +35,7 @@ module _ {F M : Type 0} (contents : F → Option Contents) (file_faults : F → 
       (λ is. let that : e ≡ Device = cc in ap (λ (r : Refusal). codec.Refused r) that) told full damaged
 
   -- no device failed
-  pub unmet_causes : (reply : CodecReply) (old new : Server F M) → new.rows.cluster ≡ old.rows.cluster → new.oracle ≡ old.oracle → ¬ (reply ≡ codec.Refused Device)
+  pub unmet_causes : (reply : CodecReply) (old new : Server F M W) → new.rows.cluster ≡ old.rows.cluster → new.oracle ≡ old.oracle → ¬ (reply ≡ codec.Refused Device)
       → (reply ≡ codec.Refused MemtableFull → LacksRoom contents request old) → (reply ≡ codec.Refused Damaged → ReadsDamage contents request old new) → TellsCauses contents file_faults mark_faults request reply old new
   unmet_causes reply old new same_cluster same_oracle not full damaged = record {
     device = λ is. absurd (not is);

@@ -22,10 +22,10 @@ use Rattle.server_loop.proofs.SessionSteps.{name_undamaged, not_done}
 use Rattle.server_loop.proofs.UpkeepSteps.{checkpoint_done, checkpoint_refuses, checkpoint_whole, flush_stores, still_shown, tells_as}
 
 -- the same server over another cluster
-abbrev with_cluster : {F M : Type 0} → Server F M → ClusterState F → Server F M
+abbrev with_cluster : {F M W : Type 0} → Server F M W → ClusterState F → Server F M W
 with_cluster server cluster = record server { rows = record (rows_of server) { cluster = cluster } }
 
-module _ {F M W : Type 0} (files : Files F W) (marks : MarkStore M) (old : Server F M) (cluster : ClusterState F) where
+module _ {F M W : Type 0} (files : Files F W) (marks : MarkStore M) (old : Server F M W) (cluster : ClusterState F) where
   plain_here : (result : Result (Unit {0}) Refusal) → IsCheckpoint files (top_of old) (floor_of old) (cluster_of old) result cluster → IsPlainAnswer files marks old Checkpoint (checkpointed result) (forgets (with_cluster old cluster))
   plain_here (Ok done) o = record {
     step = record { step = tells_as _ _ _ o.keeps.kept (λ held follows. tt) refl refl refl refl _ _ o.keeps.spots (λ st shown. checkpoint_done st) (λ held. checkpoint_whole); refusal = tt; limits = tt };
@@ -74,15 +74,15 @@ module _ {F M W : Type 0} (files : Files F W) (marks : MarkStore M) (old : Serve
 
 module _ {F M W : Type 0} (files : Files F W) (marks : MarkStore M) (laws : KeepsFollowing files.contents files.faults) where
   -- a checkpoint of the cluster is one of the server
-  pub acts_as : (old new : Server F M) (top floor : ℕ) → top ≡ top_of old → floor ≡ floor_of old → new ≡ with_cluster old (cluster_of new) → (result : Result (Unit {0}) Refusal) → IsCheckpoint files top floor (cluster_of old) result (cluster_of new) → ActsAsCheckpoint files marks old result new
+  pub acts_as : (old new : Server F M W) (top floor : ℕ) → top ≡ top_of old → floor ≡ floor_of old → new ≡ with_cluster old (cluster_of new) → (result : Result (Unit {0}) Refusal) → IsCheckpoint files top floor (cluster_of old) result (cluster_of new) → ActsAsCheckpoint files marks old result new
   acts_as old new top floor is_top is_floor others result o =
       let here : IsCheckpoint files (top_of old) (floor_of old) (cluster_of old) result (cluster_of new) = subst (λ (t : ℕ). IsCheckpoint files t (floor_of old) (cluster_of old) result (cluster_of new)) is_top (subst (λ (f : ℕ). IsCheckpoint files top f (cluster_of old) result (cluster_of new)) is_floor o) in
-      subst (λ (server : Server F M). ActsAsCheckpoint files marks old result server) (sym others) (acts_here files marks old (cluster_of new) laws result here)
+      subst (λ (server : Server F M W). ActsAsCheckpoint files marks old result server) (sym others) (acts_here files marks old (cluster_of new) laws result here)
 
   -- a root that is put after all tablets were flushed
-  pub put_acts : RootIsStored files.contents → RootOutlastsFlushes files.contents files.faults → (first mid : Server F M) (cluster : ClusterState F) (top floor : ℕ) (result : Result (Unit {0}) Refusal) → top ≡ top_of mid → floor ≡ floor_of mid → FlushesAll files.contents files.faults first outcome.Done mid
+  pub put_acts : RootIsStored files.contents → RootOutlastsFlushes files.contents files.faults → (first mid : Server F M W) (cluster : ClusterState F) (top floor : ℕ) (result : Result (Unit {0}) Refusal) → top ≡ top_of mid → floor ≡ floor_of mid → FlushesAll files.contents files.faults first outcome.Done mid
       → PutsRoot files.contents top floor (cluster_of mid) (done_of result) cluster.files → cluster ≡ record (cluster_of mid) { files = cluster.files } → OnOk result (AreFlushed (cluster_of mid) → Rests files.contents top floor (cluster_of mid) cluster)
       → (files.replaces → OnErr result (PutsRootOrNone files.contents top floor (cluster_of mid) cluster)) → KeepsShown files.contents files.faults (cluster_of mid) cluster → TellsFaults files.faults (done_of result) (cluster_of mid) cluster → ActsAsCheckpoint files marks first result (with_cluster mid cluster)
   put_acts stored outlasts first mid cluster top floor result is_top is_floor flushed puts rest rests whole keeps faults =
-      acts_as first (with_cluster mid cluster) top floor (is_top ∙ ap (λ (s : Server F M). top_of s) flushed.others) (is_floor ∙ ap (λ (s : Server F M). floor_of s) flushed.others) (ap (λ (s : Server F M). with_cluster s cluster) flushed.others) result
+      acts_as first (with_cluster mid cluster) top floor (is_top ∙ ap (λ (s : Server F M W). top_of s) flushed.others) (is_floor ∙ ap (λ (s : Server F M W). floor_of s) flushed.others) (ap (λ (s : Server F M W). with_cluster s cluster) flushed.others) result
       (put_checkpoints files stored outlasts top floor (cluster_of first) (cluster_of mid) cluster result flushed.flushes puts rest rests whole keeps faults)

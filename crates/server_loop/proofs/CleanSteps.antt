@@ -39,7 +39,7 @@ logged_in storage = storage.logged
 
 -- ---- whole steps
 
-module _ {F M : Type 0} (contents : F → Option Contents) (old new : Server F M) where
+module _ {F M W : Type 0} (contents : F → Option Contents) (old new : Server F M W) where
   -- a step of a cleaner, which leaves the tablets' places, the sessions and the collectors unchanged
   pub cleans_as : (request : Request) (reply : Reply) → KeepsPlaces request → kind_of request ≡ OfCleaners → new.clients ≡ old.clients → new.oracle.last ≡ old.oracle.last
       → new.collectors ≡ old.collectors → ((st : State) → IsReached st → Shows contents old st → ChangesCells (server_cells contents old) st (server_cells contents new))

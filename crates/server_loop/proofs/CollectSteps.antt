@@ -25,7 +25,7 @@ use Rattle.server_loop.proofs.OthersShown.{cleaners_stay, collectors_not_cleaner
 
 -- ---- whole steps
 
-module _ {F M : Type 0} (contents : F → Option Contents) (old new : Server F M) where
+module _ {F M W : Type 0} (contents : F → Option Contents) (old new : Server F M W) where
   -- a step of a collector, which leaves the tablets' places, the sessions and the cleaners unchanged
   pub collects_as : (request : Request) (reply : Reply) → KeepsPlaces request → kind_of request ≡ OfCollectors → new.clients ≡ old.clients → new.oracle.last ≡ old.oracle.last
       → new.cleaners ≡ old.cleaners

@@ -94,17 +94,17 @@ marked_now None top last is within low = cc
 marked_now (Some m) top last is within low = omega (arith, within, low)
 
 module _ {F M W : Type 0} (files : Files F W) (store : MarkStore M) where
-  told_left : (e : Refusal) (old new : Server F M) → LeavesOracle store.mark e old new → IsSome (store.mark (marks_of old)) → IsSome (store.mark (marks_of new))
+  told_left : (e : Refusal) (old new : Server F M W) → LeavesOracle store.mark e old new → IsSome (store.mark (marks_of old)) → IsSome (store.mark (marks_of new))
   told_left Device old new left told = may_told _ _ _ left.0 told
   told_left e old new left told = subst (λ (o : OracleState M). IsSome (store.mark o.marks)) (sym left) told
 
-  told_mark : (request : Lent) (e : Refusal) (old new : Server F M) → KeepsOracle files.contents store.mark request (codec.Refused e) old new → IsSome (store.mark (marks_of old)) → IsSome (store.mark (marks_of new))
+  told_mark : (request : Lent) (e : Refusal) (old new : Server F M W) → KeepsOracle files.contents store.mark request (codec.Refused e) old new → IsSome (store.mark (marks_of old)) → IsSome (store.mark (marks_of new))
   told_mark lent.Begin e old new keeps told = told_left e old new keeps told
   told_mark (lent.Step start) e old new keeps told = may_told _ _ _ keeps.1.0 told
   told_mark lent.OracleRestart e old new keeps told = subst (λ (o : Option ℕ). IsSome o) (sym keeps.0) told
   told_mark request e old new keeps told = subst (λ (o : OracleState M). IsSome (store.mark o.marks)) (sym keeps) told
 
-  told_spared : (request : Lent) (reply : CodecReply) (old new : Server F M) → IsSparing request → KeepsOracle files.contents store.mark request reply old new → IsSome (store.mark (marks_of old)) → IsSome (store.mark (marks_of new))
+  told_spared : (request : Lent) (reply : CodecReply) (old new : Server F M W) → IsSparing request → KeepsOracle files.contents store.mark request reply old new → IsSome (store.mark (marks_of old)) → IsSome (store.mark (marks_of new))
   told_spared (lent.Minor t) reply old new is keeps told = subst (λ (o : OracleState M). IsSome (store.mark o.marks)) (sym keeps) told
   told_spared lent.Sweep reply old new is keeps told = subst (λ (o : OracleState M). IsSome (store.mark o.marks)) (sym keeps) told
   told_spared lent.OracleRestart reply old new is keeps told = subst (λ (o : Option ℕ). IsSome o) (sym keeps.0) told
@@ -123,13 +123,13 @@ module _ {F M W : Type 0} (files : Files F W) (store : MarkStore M) where
     by_command (Some command) request e old new (inl is) keeps = (stays command (outcome.Refused e) root cells old new is).1 (λ takes. not_done e takes.1) keeps
     by_command (Some command) request e old new (inr none) keeps = subst (λ (state : ClusterState F). KeepsRoot files.contents root cells state) (sym none.1) keeps
 
-    tends_root : (request : Lent) (e : Refusal) (old new : Server F M) → request ≢ lent.Checkpoint → TendsTablets files request (codec.Refused e) old new
+    tends_root : (request : Lent) (e : Refusal) (old new : Server F M W) → request ≢ lent.Checkpoint → TendsTablets files request (codec.Refused e) old new
         → KeepsRoot files.contents root cells (cluster_of old) → KeepsRoot files.contents root cells (cluster_of new)
     tends_root lent.Checkpoint e old new other tends keeps = absurd (other refl)
-    tends_root (lent.Status t) e old new other tends keeps = subst (λ (server : Server F M). KeepsRoot files.contents root cells (cluster_of server)) (sym tends.0) keeps
+    tends_root (lent.Status t) e old new other tends keeps = subst (λ (server : Server F M W). KeepsRoot files.contents root cells (cluster_of server)) (sym tends.0) keeps
     tends_root request e old new other tends keeps = by_command (command_of request) request e (cluster_of old) (cluster_of new) tends keeps
 
-    spared_root : (request : Lent) (reply : CodecReply) (old new : Server F M) → IsSparing request → TendsTablets files request reply old new
+    spared_root : (request : Lent) (reply : CodecReply) (old new : Server F M W) → IsSparing request → TendsTablets files request reply old new
         → KeepsRoot files.contents root cells (cluster_of old) → KeepsRoot files.contents root cells (cluster_of new)
     spared_root (lent.Minor t) reply old new is (inl made) keeps = (stays _ _ root cells (cluster_of old) (cluster_of new) made).1 (λ takes. takes.0) keeps
     spared_root (lent.Minor t) reply old new is (inr none) keeps = absurd none.0
@@ -138,10 +138,10 @@ module _ {F M W : Type 0} (files : Files F W) (store : MarkStore M) where
     spared_root lent.OracleRestart reply old new is same keeps = (stored root cells (cluster_of old) (cluster_of new) same).1 keeps
     spared_root (lent.Raw row family qualifier lo hi) reply old new is (inl made) keeps = (stays _ _ root cells (cluster_of old) (cluster_of new) made).1 (λ takes. takes.0) keeps
     spared_root (lent.Raw row family qualifier lo hi) reply old new is (inr none) keeps = subst (λ (state : ClusterState F). KeepsRoot files.contents root cells state) (sym none.1) keeps
-    spared_root (lent.Status t) reply old new is tends keeps = subst (λ (server : Server F M). KeepsRoot files.contents root cells (cluster_of server)) (sym tends.0) keeps
+    spared_root (lent.Status t) reply old new is tends keeps = subst (λ (server : Server F M W). KeepsRoot files.contents root cells (cluster_of server)) (sym tends.0) keeps
     spared_root request reply old new is tends keeps = absurd is
 
-  module _ (old new : Server F M) (within : IsWithinMark (last_of new) (store.mark (marks_of new))) where
+  module _ (old new : Server F M W) (within : IsWithinMark (last_of new) (store.mark (marks_of new))) where
     -- it rests at the same root
     rests_on : (st : State) → Shows files.contents new st → (rests : RestsAt files.contents store.mark old st) → KeepsRoot files.contents rests.root rests.cells (cluster_of new) → IsSome (store.mark (marks_of new)) → RestsAt files.contents store.mark new st
     rests_on st shown rests keeps told = record {
@@ -190,7 +190,7 @@ module _ {F M W : Type 0} (files : Files F W) (store : MarkStore M) where
           (read_rests stored start cells stays_open plain.result (subst (λ (a : CodecAnswer). AnswersAtOnce files store (Read start cells stays_open) IsReadRequestRefusal old a new) plain.gives plain.at_once));
     }
 
-  module _ (reopens : (cells : Cells) (st : State) → ShowsCells cells st → ShowsCells cells (reopened st)) (stored : RootIsStored files.contents) (stays : RootStays files.contents files.faults) (old new : Server F M) (within : IsWithinMark (last_of new) (store.mark (marks_of new))) where
+  module _ (reopens : (cells : Cells) (st : State) → ShowsCells cells st → ShowsCells cells (reopened st)) (stored : RootIsStored files.contents) (stays : RootStays files.contents files.faults) (old new : Server F M W) (within : IsWithinMark (last_of new) (store.mark (marks_of new))) where
     rests_refused : (request : Lent) (e : Refusal) → request ≢ lent.Checkpoint → IsPlainAnswer files store old request (codec.Refused e) new → (st : State) → IsReached st → RestsAt files.contents store.mark old st → RestsAt files.contents store.mark new st
     rests_refused request e other plain st reached rests =
         let (next, step, after, whole) = plain.step.step st reached rests.shows in
@@ -267,7 +267,7 @@ module _ {F M W : Type 0} (files : Files F W) (store : MarkStore M) where
   merged_none true (Some policy) old new (inl none) merges = cc
   merged_none true (Some policy) old new (inr none) merges = cc
 
-  pub rests_between : RootOutlastsFlushes files.contents files.faults → RestsBetween files.contents files.faults store.mark
+  pub rests_between : RootOutlastsFlushes files.contents files.faults → RestsBetween files store.mark
   rests_between outlasts old new st tended none rests = record {
     shows = tended.shown st rests.shows;
     root = rests.root;
@@ -277,7 +277,7 @@ module _ {F M W : Type 0} (files : Files F W) (store : MarkStore M) where
     tells = subst (λ (o : OracleState M). TellsState rests.root rests.cells (store.mark o.marks) st) (sym tended.oracle) rests.tells;
   }
 
-  pub resting_is_kept : RestingIsKept files.contents store.mark
+  pub resting_is_kept : RestingIsKept files store.mark
   resting_is_kept server st rests = record {
     kept = rests.keeps.has.kept;
     on_disk = rests.keeps.has.on_disk;

@@ -40,7 +40,7 @@ use Rattle.server_loop.proofs.OthersShown.{floor_stays, cleaners_stay, collector
 use Rattle.server_loop.proofs.SamePlaces.{KeepsPlaces}
 use Rattle.server_loop.proofs.SplitSteps.{still_placed, still_next}
 
-module _ {F M : Type 0} (contents : F → Option Contents) (old new : Server F M) where
+module _ {F M W : Type 0} (contents : F → Option Contents) (old new : Server F M W) where
   -- a step of a session, which leaves the tablets' places, the cleaners and the collectors unchanged
   pub steps_as : (request : Request) (reply : Reply) → KeepsPlaces request → kind_of request ≡ OfSessions → new.cleaners ≡ old.cleaners
       → new.collectors ≡ old.collectors → ((st : State) → IsReached st → Shows contents old st → ChangesCells (server_cells contents old) st (server_cells contents new))
@@ -78,7 +78,7 @@ Undrawn refusal =
     IsErrOf {T = ℕ} (Err refusal) TooManySessions ⊎ IsErrOf {T = ℕ} (Err refusal) Exhausted
 
 -- the effects of a refused begin on the oracle
-pub begin_leaves_oracle : {F M : Type 0} (mark : M → Option ℕ) (refusal : Refusal) (old new : Server F M) → IsBeginRefusal refusal → (Undrawn refusal → new.oracle ≡ old.oracle)
+pub begin_leaves_oracle : {F M W : Type 0} (mark : M → Option ℕ) (refusal : Refusal) (old new : Server F M W) → IsBeginRefusal refusal → (Undrawn refusal → new.oracle ≡ old.oracle)
     → (IsErrOf {T = ℕ} (Err refusal) NoMemory → new.oracle ≡ old.oracle) → LeavesMark mark old new × SameNumbers old.oracle new.oracle → LeavesOracle mark refusal old new
 begin_leaves_oracle mark TooManySessions old new is undrawn allocated device = undrawn (inl refl)
 begin_leaves_oracle mark Exhausted old new is undrawn allocated device = undrawn (inr refl)
@@ -156,7 +156,7 @@ progress_limits (progresses.Committed stamp) = tt
 progress_limits progresses.Lost = tt
 progress_limits (progresses.Finished place count) = tt
 
-module _ {F M : Type 0} (contents : F → Option Contents) (old new : Server F M) where
+module _ {F M W : Type 0} (contents : F → Option Contents) (old new : Server F M W) where
   -- a restart of the oracle, after which the server shows the same
   pub restart_done : ((st : State) → Shows contents old st → Shows contents new st) → StepsAs (Shows contents) old new OracleRestart RestartDone
   restart_done still = λ before reached shown. (before, accepts (λ n applies. elim applies [ ]) (tells restarts), still before shown, λ same. cc)

@@ -1,8 +1,9 @@
 -- A server shows the same after its upkeep, whether files were merged or not.
-use Rattle.std.proofs.Common.{◌≡◌, ℕ, List, map, None, Option, Some, refl, arith, ap, sym, subst, ◌∙◌}
+use Rattle.std.proofs.Common.{◌≡◌, inl, inr, true, false, ℕ, List, map, None, Option, Some, refl, arith, ap, sym, subst, ◌∙◌}
 use Rattle.cell_key.specs.Cells.{Cells}
 use Rattle.file_store.specs.Store.{Contents}
 use Rattle.tablet.specs.declared.merge_policy.MergePolicy.{MergePolicy}
+use Rattle.tablet.specs.declared.merge_policy.MergePolicy.TheVariants.{AtCount, Levels}
 use Rattle.row_atomic.specs.Clusters.{ClusterState, Spot}
 use Rattle.row_atomic.specs.Changes.{Holds}
 use Rattle.row_atomic.specs.Flushes.{CompactsFull, KeepsShown}
@@ -17,10 +18,11 @@ use Rattle.clean_up.specs.declared.cleaners.Cleaners.{Cleaners}
 use Rattle.version_collector.specs.Shows.{ShowsCollectors}
 use Rattle.version_collector.specs.declared.collectors.Collectors.{Collectors}
 use Rattle.server_loop.specs.Server.{Shows, server_cells, cluster_of, journal_of, last_of, machine_place}
-use Rattle.server_loop.specs.Tending.{Merges}
+use Rattle.server_loop.specs.Tending.{IsNoted, Merges}
 use Rattle.server_loop.specs.declared.server.Server.{Server}
+use Rattle.server_loop.specs.declared.server.Tending.{Tending}
 
-pub still_shown : {F M : Type 0} (contents : F → Option Contents) (faults : F → ℕ) (old new : Server F M) (st : State) → KeepsShown contents faults (cluster_of old) (cluster_of new) → (Holds contents (cluster_of old) → Follows contents (cluster_of old) (journal_of old) → Follows contents (cluster_of new) (journal_of new))
+pub still_shown : {F M W : Type 0} (contents : F → Option Contents) (faults : F → ℕ) (old new : Server F M W) (st : State) → KeepsShown contents faults (cluster_of old) (cluster_of new) → (Holds contents (cluster_of old) → Follows contents (cluster_of old) (journal_of old) → Follows contents (cluster_of new) (journal_of new))
     → new.clients ≡ old.clients → new.cleaners ≡ old.cleaners → new.collectors ≡ old.collectors → last_of new ≡ last_of old → Shows contents old st → Shows contents new st
 still_shown contents faults old new st keeps follows sessions cleaners collectors last shown =
     let (held, cells) = keeps.kept shown.in_order.0 in
@@ -39,6 +41,14 @@ still_shown contents faults old new st keeps follows sessions cleaners collector
 
 -- ---- merges
 
+-- nothing is noted where no merge was due
+pub not_due : (next : ℕ) (tending : Tending) → IsNoted false next tending tending
+not_due next tending = record { flush = refl; merge = refl; noted = λ other. refl }
+
+-- a file's name is noted after a whole merge
+pub all_merged : (next : ℕ) (tending : Tending) → IsNoted true next tending (record tending { merged_to = next })
+all_merged next tending = record { flush = refl; merge = refl; noted = λ other. refl }
+
 module _ {F : Type 0} (contents : F → Option Contents) (faults : F → ℕ) where
   pub keeps_same : (old : ClusterState F) → KeepsShown contents faults old old
   keeps_same old = record { kept = λ holds. (holds, refl); spots = refl; limit = refl; later = omega arith }
@@ -53,7 +63,9 @@ module _ {F : Type 0} (contents : F → Option Contents) (faults : F → ℕ) wh
 
   merges_follow : KeepsFollowing contents faults → (merge : Option MergePolicy) (journal : Option JournalView) (old new : ClusterState F) → Merges contents faults merge old new → KeepsShown contents faults old new → Holds contents old → Follows contents old journal → Follows contents new journal
   merges_follow law None journal old new is keeps holds follows = subst (λ (state : ClusterState F). Follows contents state journal) (sym is) follows
-  merges_follow law (Some policy) journal old new is keeps holds follows = law.merges policy journal old new is keeps holds follows
+  merges_follow law (Some (AtCount count)) journal old new is keeps holds follows = law.merges (AtCount count) journal old new is keeps holds follows
+  merges_follow law (Some Levels) journal old new (inl same) keeps holds follows = subst (λ (state : ClusterState F). Follows contents state journal) (sym same) follows
+  merges_follow law (Some Levels) journal old new (inr step) keeps holds follows = law.roots journal old new step.2 keeps holds follows
 
   -- the journal follows the shown cells, after compactions and merges
   pub tends_follow : KeepsFollowing contents faults → (limits : FlushLimits) (merge : Option MergePolicy) (journal : Option JournalView) (old mid new : ClusterState F) → CompactsFull contents faults limits old mid → KeepsShown contents faults old mid → Merges contents faults merge mid new → KeepsShown contents faults mid new

@@ -11,6 +11,7 @@ use Rattle.metadata_table.specs.Places.{PlaceView}
 use Rattle.metadata_table.specs.Table.{BarsSplit, HasTablet, IsTable, most_servers}
 use Rattle.row_atomic.specs.Changes.{ComesTo, Holds, IsBadCount, IsCut, IsMerged, IsMoveRefusal, IsNumberedRefusal, IsRefusalOf as IsFlushRefusal, IsSplitRefusal, KeepsMap, Numbered, Remakes}
 use Rattle.row_atomic.specs.Clusters.{ClusterState, cells_in, spots_of}
+use Rattle.row_atomic.specs.MergeStates.{MergeState}
 use Rattle.row_atomic.specs.Recorded.{Follows}
 use Rattle.rows.specs.Refusals.{IsReadRefusal}
 use Rattle.row_atomic.specs.Compactions as compaction
@@ -149,13 +150,13 @@ two_merged k n next old new good made = elim (cases_lt n 2) [
   | inr two ↦ two
 ]
 
--- other files leave each tablet's place unchanged
-pub same_spots : {F : Type 0} (old new : ClusterState F) (files : F) → new ≡ record old { files = files } → spots_of new ≡ spots_of old
-same_spots old new files e = ap (λ (cluster : ClusterState _). spots_of cluster) e
+-- other files, or another merge, leave each tablet's place unchanged
+pub same_spots : {F : Type 0} (old new : ClusterState F) (files : F) (merge : Option MergeState) → new ≡ record old { files = files; merge = merge } → spots_of new ≡ spots_of old
+same_spots old new files merge e = ap (λ (cluster : ClusterState _). spots_of cluster) e
 
 -- ---- whole steps
 
-module _ {F M : Type 0} (contents : F → Option Contents) (old new : Server F M) (kept : KeepsMap contents old.rows.cluster new.rows.cluster) (follows : Holds contents old.rows.cluster → Follows contents old.rows.cluster old.rows.journal → Follows contents new.rows.cluster new.rows.journal) (same_clients : new.clients ≡ old.clients) (same_last : new.oracle.last ≡ old.oracle.last) (same_cleaners : new.cleaners ≡ old.cleaners) (same_collectors : new.collectors ≡ old.collectors) where
+module _ {F M W : Type 0} (contents : F → Option Contents) (old new : Server F M W) (kept : KeepsMap contents old.rows.cluster new.rows.cluster) (follows : Holds contents old.rows.cluster → Follows contents old.rows.cluster old.rows.journal → Follows contents new.rows.cluster new.rows.journal) (same_clients : new.clients ≡ old.clients) (same_last : new.oracle.last ≡ old.oracle.last) (same_cleaners : new.cleaners ≡ old.cleaners) (same_collectors : new.collectors ≡ old.collectors) where
   -- if cells, sessions and stamps are unchanged, they show the same
   shows_kept : (st : State) → Holds contents old.rows.cluster → clients.Shows (cells_in (contents old.rows.cluster.files) old.rows.cluster.tablets) old.clients old.oracle.last st
       → clients.Shows (cells_in (contents new.rows.cluster.files) new.rows.cluster.tablets) new.clients new.oracle.last st

@@ -41,8 +41,8 @@ use Rattle.version_collector.specs.Shows as collectors
 -- ---- the machine
 
 -- The answer is a step of the machine. Its refusal is one of this request's, and its contents are within the limits.
-pub record IsMachineStep {F M : Type 0} (contents : F → Option Contents) (request : Request)
-    (reply : Reply) (old new : Server F M) : Type 0 where
+pub record IsMachineStep {F M W : Type 0} (contents : F → Option Contents) (request : Request)
+    (reply : Reply) (old new : Server F M W) : Type 0 where
   pub step : StepsAs (Shows contents) old new (asked request) (replied reply)
   pub refusal : IfRefused (IsRefusalOfRequest request) (replied reply)
   pub limits : HoldsWithinLimits (replied reply)
@@ -50,13 +50,14 @@ pub record IsMachineStep {F M : Type 0} (contents : F → Option Contents) (requ
 -- ---- stamps
 
 -- a restarted oracle continues from its mark, if the mark is known
-abbrev pub FollowsMark : {F M : Type 0} → (M → Option ℕ) → Reply → Server F M → Server F M → Type 0
+abbrev pub FollowsMark : {F M W : Type 0} → (M → Option ℕ) → Reply → Server F M W → Server F M W
+    → Type 0
 FollowsMark mark codec.OracleRestart old new = IfSome (mark (marks_of old)) (λ n. last_of new ≡ n)
 FollowsMark mark reply old new = ⊤
 
 -- When Exhausted is answered: no stamp is left, for a Begin and for a Step that draws one; no number is left, for a
 -- cleaner or a collector. For a command its outcome gives the reason.
-abbrev pub LacksStamp : {F M : Type 0} → (F → Option Contents) → Request → Server F M → Type 0
+abbrev pub LacksStamp : {F M W : Type 0} → (F → Option Contents) → Request → Server F M W → Type 0
 LacksStamp contents Begin old = last_of old ≡ 9_223_372_036_854_775_807
 LacksStamp contents (Step start) old =
     (last_of old ≡ 9_223_372_036_854_775_807)
@@ -66,8 +67,8 @@ LacksStamp contents CollectBegin old = (st : State) → Shows contents old st �
 LacksStamp contents request old = ⊤
 
 -- A stamp in an answer is the oracle's next one, and otherwise only a restart moves the last stamp.
-pub record DrawsStamps {F M : Type 0} (contents : F → Option Contents) (mark : M → Option ℕ)
-    (request : Request) (reply : Reply) (old new : Server F M) : Type 0 where
+pub record DrawsStamps {F M W : Type 0} (contents : F → Option Contents) (mark : M → Option ℕ)
+    (request : Request) (reply : Reply) (old new : Server F M W) : Type 0 where
   pub last : StampsGoOn (replied reply) (last_of old) (last_of new)
   pub restarted : FollowsMark mark reply old new
   pub exhausted : reply ≡ codec.Refused Exhausted → LacksStamp contents request old
@@ -76,8 +77,8 @@ pub record DrawsStamps {F M : Type 0} (contents : F → Option Contents) (mark :
 
 -- A step makes the next edits of its session or cleaner, or its collector's visits, and takes their room in memory.
 -- Nothing else changes a cell. The room that a command takes is given by its outcome.
-pub record MakesEdits {F M : Type 0} (contents : F → Option Contents) (request : Request)
-    (reply : Reply) (old new : Server F M) : Type 0 where
+pub record MakesEdits {F M W : Type 0} (contents : F → Option Contents) (request : Request)
+    (reply : Reply) (old new : Server F M W) : Type 0 where
   pub changes : ChangesCells contents request reply old new
   pub room : LeavesServerRoom contents request reply old new
 
@@ -85,8 +86,8 @@ pub record MakesEdits {F M : Type 0} (contents : F → Option Contents) (request
 
 -- The answers that are always given in a shown state, and the effects of a request on the sessions, the cleaners, the
 -- collectors and the oracle.
-pub record ServesSessions {F M : Type 0} (contents : F → Option Contents) (mark : M → Option ℕ)
-    (request : Request) (reply : Reply) (old new : Server F M) : Type 0 where
+pub record ServesSessions {F M W : Type 0} (contents : F → Option Contents) (mark : M → Option ℕ)
+    (request : Request) (reply : Reply) (old new : Server F M W) : Type 0 where
   pub told : (st : State) → Shows contents old st → IsAlwaysTold request reply st
   pub sessions : KeepsSessions request reply old.clients new.clients
   pub cleaners : KeepsCleaners request reply old.cleaners new.cleaners
@@ -104,8 +105,8 @@ IfReported P reply = ⊤
 -- writes the sessions' top and the collectors' greatest floor, and once it is accepted, the files keep the tablets'
 -- cells. If a put replaces files as a whole, a refused checkpoint leaves in the files the cells that they kept before,
 -- or the tablets' cells.
-abbrev pub TendsTablets : {F M W : Type 0} → Files F W → Request → Reply → Server F M → Server F M
-    → Type 0
+abbrev pub TendsTablets : {F M W : Type 0} → Files F W → Request → Reply → Server F M W
+    → Server F M W → Type 0
 TendsTablets files Checkpoint reply old new =
     Checkpoints files.contents files.faults (top_of old) (floor_of old)
     (cluster_of old) (outcome_of reply) (cluster_of new)
@@ -123,7 +124,7 @@ TendsTablets files request reply old new =
 
 -- When MemtableFull is answered: the edits of the session's or the cleaner's step, or of the collector's visits, have
 -- no room in the memtable of their row's tablet. If a state is shown, they are the machine's edits of the next step.
-abbrev pub LacksRoom : {F M : Type 0} → (F → Option Contents) → Request → Server F M → Type 0
+abbrev pub LacksRoom : {F M W : Type 0} → (F → Option Contents) → Request → Server F M W → Type 0
 LacksRoom contents (Step start) old =
     HasNoRoom OverfillsRecorded (rows_of old)
     (EditsOfStep (HoldsIn contents old) (server_cells contents old) old.clients start)
@@ -142,8 +143,8 @@ LacksRoom contents request old = ⊤
 -- When Damaged is answered. For a Get, a Scan, and the beginning or a step of a cleaner: if the rows that it reads are
 -- readable, the cells are damaged. For a step of a session: its row is not readable. For a step of a collector: its
 -- rows are not readable, or no reached state is shown.
-abbrev pub ReadsDamage : {F M : Type 0} → (F → Option Contents) → Request → Server F M → Server F M
-    → Type 0
+abbrev pub ReadsDamage : {F M W : Type 0} → (F → Option Contents) → Request → Server F M W
+    → Server F M W → Type 0
 ReadsDamage contents (Get start row family) old new =
     (seen_recorded contents).readable (rows_of old) row.now
     → IsDamaged (server_cells contents old) (cell_of row.now family.now) start
@@ -166,8 +167,9 @@ ReadsDamage contents request old new = ⊤
 
 -- A device's fault is answered if and only if a count of faults rose. For a command the outcome gives the reason of a
 -- refusal.
-pub record TellsCauses {F M : Type 0} (contents : F → Option Contents) (file_faults : F → ℕ)
-    (mark_faults : M → ℕ) (request : Request) (reply : Reply) (old new : Server F M) : Type 0 where
+pub record TellsCauses {F M W : Type 0} (contents : F → Option Contents) (file_faults : F → ℕ)
+    (mark_faults : M → ℕ) (request : Request) (reply : Reply) (old new : Server F M W)
+    : Type 0 where
   pub device : reply ≡ codec.Refused Device → IsFaultSeen file_faults mark_faults old new
   pub told : ¬ (reply ≡ codec.Refused Device) → SeesNoFault file_faults mark_faults old new
   pub full : reply ≡ codec.Refused MemtableFull → LacksRoom contents request old
@@ -189,7 +191,7 @@ KeepsLogged request old new = logged_of new ≡ logged_of old
 -- The contract of an answer without the part on resting. It depends on the views of the files and the mark store: the
 -- files' bytes, the mark, and the counts of faults of both.
 pub record IsPlainAnswer {F M W : Type 0} (files : Files F W) (marks : MarkStore M)
-    (old : Server F M) (request : Request) (reply : Reply) (new : Server F M) : Type 0 where
+    (old : Server F M W) (request : Request) (reply : Reply) (new : Server F M W) : Type 0 where
   pub step : IsMachineStep files.contents request reply old new
   pub stamps : DrawsStamps files.contents marks.mark request reply old new
   pub edits : MakesEdits files.contents request reply old new
@@ -203,6 +205,6 @@ pub record IsPlainAnswer {F M W : Type 0} (files : Files F W) (marks : MarkStore
 
 -- The contract of an answer.
 pub record IsAnswer {F M W : Type 0} (files : Files F W) (marks : MarkStore M)
-    (old : Server F M) (request : Request) (reply : Reply) (new : Server F M) : Type 0 where
+    (old : Server F M W) (request : Request) (reply : Reply) (new : Server F M W) : Type 0 where
   pub plain : IsPlainAnswer files marks old request reply new
   pub resting : KeepsResting files marks.mark request reply old new

@@ -18,8 +18,8 @@ use Rattle.server_loop.specs.Server.{Shows, cluster_of, forgets, journal_of, row
 use Rattle.server_loop.specs.declared.server.Server.{Server}
 
 -- Every tablet of a server was flushed, in the order of their ends, until one was refused. Nothing else changed.
-pub record FlushesAll {F M : Type 0} (contents : F → Option Contents) (faults : F → ℕ)
-    (old : Server F M) (result : Outcome) (new : Server F M) : Type 0 where
+pub record FlushesAll {F M W : Type 0} (contents : F → Option Contents) (faults : F → ℕ)
+    (old : Server F M W) (result : Outcome) (new : Server F M W) : Type 0 where
   pub flushes : FlushesEach contents faults (cluster_of old)
       (numbers_of (cluster_of old).places) result (cluster_of new)
   pub others : new ≡ record old { rows = record (rows_of old) { cluster = cluster_of new } }
@@ -27,7 +27,7 @@ pub record FlushesAll {F M : Type 0} (contents : F → Option Contents) (faults 
 -- Apart from the journal, which is kept, this is the answer to a Checkpoint. Once it is done, the files keep the shown
 -- cells without an edit. If a put replaces files as a whole, the journal still leads to these cells, also after a refusal.
 pub record ActsAsCheckpoint {F M W : Type 0} (files : Files F W) (marks : MarkStore M)
-    (old : Server F M) (result : Result (Unit {0}) Refusal) (new : Server F M) : Type 0 where
+    (old : Server F M W) (result : Result (Unit {0}) Refusal) (new : Server F M W) : Type 0 where
   pub plain : IsPlainAnswer files marks old Checkpoint (checkpointed result) (forgets new)
   pub shown : (st : State) → Shows files.contents old st → Shows files.contents (forgets new) st
   pub refusal : IfErr result IsStorageRefusal

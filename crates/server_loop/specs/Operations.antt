@@ -45,8 +45,8 @@ read_given (Err refusal) = given.Said (codec.Refused refusal)
 
 -- They leave the cleaners and the collectors, everything below the memtables, the upkeep, and the part of the journal
 -- that the log has.
-pub record LeavesOthers {F M : Type 0} (contents : F → Option Contents)
-    (old new : Server F M) : Type 0 where
+pub record LeavesOthers {F M W : Type 0} (contents : F → Option Contents)
+    (old new : Server F M W) : Type 0 where
   pub cleaners : new.cleaners ≡ old.cleaners
   pub collectors : new.collectors ≡ old.collectors
   pub storage : storage_of contents (cluster_of new) ≡ storage_of contents (cluster_of old)
@@ -55,8 +55,8 @@ pub record LeavesOthers {F M : Type 0} (contents : F → Option Contents)
 
 -- A refusal also leaves the sessions, the rows and the last stamp. The mark is unchanged, or the end of the oracle's
 -- next range, which may have begun.
-pub record LeavesAll {F M : Type 0} (contents : F → Option Contents) (mark : M → Option ℕ)
-    (old new : Server F M) : Type 0 where
+pub record LeavesAll {F M W : Type 0} (contents : F → Option Contents) (mark : M → Option ℕ)
+    (old new : Server F M W) : Type 0 where
   pub sessions : SameClients old.clients new.clients
   pub rows : OnlyReads (seen_recorded contents) (rows_of old) (rows_of new)
   pub last : last_of new ≡ last_of old
@@ -67,8 +67,8 @@ pub record LeavesAll {F M : Type 0} (contents : F → Option Contents) (mark : M
 -- The machine goes so, and the answer is within the limits. A device's fault is answered if and only if a count of
 -- faults rose.
 pub record AnswersAtOnce {F M W : Type 0} (files : Files F W) (marks : MarkStore M)
-    (operation : Operation) (IsOwnRefusal : Refusal → Type 0) (old : Server F M)
-    (answer : CodecAnswer) (new : Server F M) : Type 0 where
+    (operation : Operation) (IsOwnRefusal : Refusal → Type 0) (old : Server F M W)
+    (answer : CodecAnswer) (new : Server F M W) : Type 0 where
   pub goes : GoesFrom (Shows files.contents) old new operation (answer_of answer)
   pub refusal : IfAnswerRefused IsOwnRefusal (answer_of answer)
   pub limits : HoldsAnswerWithinLimits (answer_of answer)
@@ -81,8 +81,8 @@ pub record AnswersAtOnce {F M W : Type 0} (files : Files F W) (marks : MarkStore
       → SeesNoFault files.faults marks.faults old new
 
 -- after a refusal the server rests at the state at which it rested before
-abbrev pub StaysAtRest : {F M : Type 0} → (F → Option Contents) → (M → Option ℕ) → CodecAnswer
-    → Server F M → Server F M → Type 0
+abbrev pub StaysAtRest : {F M W : Type 0} → (F → Option Contents) → (M → Option ℕ) → CodecAnswer
+    → Server F M W → Server F M W → Type 0
 StaysAtRest contents mark answer old new =
     IfAnswerRefused (λ _. (st : State) → IsReached st → RestsAt contents mark old st
     → RestsAt contents mark new st) (answer_of answer)
@@ -92,8 +92,8 @@ StaysAtRest contents mark answer old new =
 -- The contract of an answer to a Commit, without the part on resting. It puts all of the session's writes, or only
 -- reads. Its stamps are the oracle's next ones. Refusals that need no memory are always answered.
 pub record IsPlainCommit {F M W : Type 0} (files : Files F W) (marks : MarkStore M)
-    (old : Server F M) (start : ℕ) (writes : Writes) (answer : CodecAnswer)
-    (new : Server F M) : Type 0 where
+    (old : Server F M W) (start : ℕ) (writes : Writes) (answer : CodecAnswer)
+    (new : Server F M W) : Type 0 where
   pub result : Result CommitReply Refusal
   pub gives : answer ≡ commit_given result
   pub at_once : AnswersAtOnce files marks (Commit start writes) IsCommitRefusal old answer new
@@ -110,8 +110,8 @@ pub record IsPlainCommit {F M W : Type 0} (files : Files F W) (marks : MarkStore
       old.clients (last_of old) start writes (rows_of old)
 
 pub record IsCommitAnswer {F M W : Type 0} (files : Files F W) (marks : MarkStore M)
-    (old : Server F M) (start : ℕ) (writes : Writes) (answer : CodecAnswer)
-    (new : Server F M) : Type 0 where
+    (old : Server F M W) (start : ℕ) (writes : Writes) (answer : CodecAnswer)
+    (new : Server F M W) : Type 0 where
   pub plain : IsPlainCommit files marks old start writes answer new
   pub rested : StaysAtRest files.contents marks.mark answer old new
 
@@ -121,8 +121,8 @@ pub record IsCommitAnswer {F M W : Type 0} (files : Files F W) (marks : MarkStor
 -- session reads there, whatever the cells contain. A new session begins with the oracle's next stamp; the oracle has no
 -- part in a session that is named.
 pub record IsPlainRead {F M W : Type 0} (files : Files F W) (marks : MarkStore M)
-    (old : Server F M) (start : ℕ) (cells : List Cell) (stays_open : Bool)
-    (answer : CodecAnswer) (new : Server F M) : Type 0 where
+    (old : Server F M W) (start : ℕ) (cells : List Cell) (stays_open : Bool)
+    (answer : CodecAnswer) (new : Server F M W) : Type 0 where
   pub result : Result ReadReply Refusal
   pub gives : answer ≡ read_given result
   pub at_once : AnswersAtOnce files marks (Read start cells stays_open) IsReadRequestRefusal old
@@ -140,16 +140,16 @@ pub record IsPlainRead {F M W : Type 0} (files : Files F W) (marks : MarkStore M
   pub exhausted : IsErrOf result Exhausted → last_of old ≡ 9_223_372_036_854_775_807
 
 pub record IsReadAnswer {F M W : Type 0} (files : Files F W) (marks : MarkStore M)
-    (old : Server F M) (start : ℕ) (cells : List Cell) (stays_open : Bool)
-    (answer : CodecAnswer) (new : Server F M) : Type 0 where
+    (old : Server F M W) (start : ℕ) (cells : List Cell) (stays_open : Bool)
+    (answer : CodecAnswer) (new : Server F M W) : Type 0 where
   pub plain : IsPlainRead files marks old start cells stays_open answer new
   pub rested : StaysAtRest files.contents marks.mark answer old new
 
 -- ---- an operation
 
 -- The contract of an answer to an operation. One request has a reply.
-abbrev pub IsAnswerTo : {F M W : Type 0} → Files F W → MarkStore M → Server F M → Lent → CodecAnswer
-    → Server F M → Type 0
+abbrev pub IsAnswerTo : {F M W : Type 0} → Files F W → MarkStore M → Server F M W → Lent
+    → CodecAnswer → Server F M W → Type 0
 IsAnswerTo files marks old (lent.One request) (given.Said reply) new =
     IsAnswer files marks old request reply new
 IsAnswerTo files marks old (lent.One request) answer new = ⊥

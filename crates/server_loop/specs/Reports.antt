@@ -26,7 +26,7 @@ words numbers = flat_map (to_be_bytes w64) numbers
 
 -- The counts of a server: its last stamp, the floor of its sessions, the greatest floor of a collector, its sessions,
 -- cleaners and collectors, the bytes that its sessions buffer, those of its journal, and its tablets.
-pub record AreCounts {F M : Type 0} (contents : F → Option Contents) (server : Server F M)
+pub record AreCounts {F M W : Type 0} (contents : F → Option Contents) (server : Server F M W)
     (numbers : List ℕ) : Type 0 where
   pub floor : ℕ
   pub is_floor : (st : State) → IsReached st → Shows contents server st → IsFloor st floor
@@ -56,7 +56,7 @@ pub data IsTabletReport {F : Type 0} (cluster : ClusterState F) (number : ℕ) :
       → IsTabletReport cluster number (words (tablet_counts place tablet) ++ end_bytes place.end)
 
 -- a report of a server, and of the tablet with this number
-pub record IsReport {F M : Type 0} (contents : F → Option Contents) (server : Server F M)
+pub record IsReport {F M W : Type 0} (contents : F → Option Contents) (server : Server F M W)
     (number : ℕ) (report : List ℕ) : Type 0 where
   pub numbers : List ℕ
   pub counts : AreCounts contents server numbers

@@ -39,8 +39,8 @@ pub record KeepsState {F M : Type 0} (contents : F → Option Contents) (mark : 
 
 -- A server shows a state, and its files and its mark keep it. Its tablets have every file of the root, and new files
 -- will get other names.
-pub record RestsAt {F M : Type 0} (contents : F → Option Contents) (mark : M → Option ℕ)
-    (server : Server F M) (st : State) : Type 0 where
+pub record RestsAt {F M W : Type 0} (contents : F → Option Contents) (mark : M → Option ℕ)
+    (server : Server F M W) (st : State) : Type 0 where
   pub shows : Shows contents server st
   pub root : RootView
   pub cells : Cells
@@ -49,8 +49,8 @@ pub record RestsAt {F M : Type 0} (contents : F → Option Contents) (mark : M �
 
 -- A server's files and its mark keep a state, which may differ from the one it shows by now. New files will get other
 -- names than the root's.
-pub record StoresState {F M : Type 0} (contents : F → Option Contents) (mark : M → Option ℕ)
-    (server : Server F M) (st : State) : Type 0 where
+pub record StoresState {F M W : Type 0} (contents : F → Option Contents) (mark : M → Option ℕ)
+    (server : Server F M W) (st : State) : Type 0 where
   pub root : RootView
   pub cells : Cells
   pub has : HasRoot contents root cells (cluster_of server)
@@ -67,7 +67,7 @@ IsSparing request = ⊥
 
 -- The effect of an answer on the state at which a server rests.
 pub record KeepsResting {F M W : Type 0} (files : Files F W) (mark : M → Option ℕ)
-    (request : Request) (reply : Reply) (old new : Server F M) : Type 0 where
+    (request : Request) (reply : Reply) (old new : Server F M W) : Type 0 where
   -- After an accepted checkpoint a server that shows a reached state rests at it, if the mark is known.
   pub done : request ≡ Checkpoint → reply ≡ codec.Checkpoint → (st : State) → IsReached st
       → Shows files.contents old st → IsSome (mark (marks_of old))
@@ -86,14 +86,14 @@ pub record KeepsResting {F M W : Type 0} (files : Files F W) (mark : M → Optio
       → StoresState files.contents mark new stored ⊎ StoresState files.contents mark new shown
 
 -- Between two requests a server keeps resting at the same state, if it doesn't merge on its own, or if no merge is due.
-abbrev pub RestsBetween : {F M : Type 0} → (F → Option Contents) → (F → ℕ) → (M → Option ℕ) → Type 0
-RestsBetween {F} {M} contents faults mark =
-    (old new : Server F M) (st : State) → IsTended contents faults old new
+abbrev pub RestsBetween : {F M W : Type 0} → Files F W → (M → Option ℕ) → Type 0
+RestsBetween {F} {M} {W} files mark =
+    (old new : Server F M W) (st : State) → IsTended files.contents files.faults old new
     → ((tending_of old).merge ≡ None) ⊎ (is_due (tending_of old) (cluster_of old) ≡ false)
-    → RestsAt contents mark old st → RestsAt contents mark new st
+    → RestsAt files.contents mark old st → RestsAt files.contents mark new st
 
 -- The files and the mark of a server that rests at a state keep that state.
-abbrev pub RestingIsKept : {F M : Type 0} → (F → Option Contents) → (M → Option ℕ) → Type 0
-RestingIsKept {F} {M} contents mark =
-    (server : Server F M) (st : State) → RestsAt contents mark server st
-    → KeepsState contents mark (cluster_of server).files (marks_of server) st
+abbrev pub RestingIsKept : {F M W : Type 0} → Files F W → (M → Option ℕ) → Type 0
+RestingIsKept {F} {M} {W} files mark =
+    (server : Server F M W) (st : State) → RestsAt files.contents mark server st
+    → KeepsState files.contents mark (cluster_of server).files (marks_of server) st

@@ -38,23 +38,23 @@ use Rattle.version_collector.specs.declared.collectors.Collectors.{Collectors}
 
 -- The effects of a collector's step for n visits on the cells and on its collector: visits, by the rules of collection.
 -- Every read of a session, each lock and each fate are unchanged.
-pub record MakesVisits {F M : Type 0} (contents : F → Option Contents) (collector n : ℕ)
+pub record MakesVisits {F M W : Type 0} (contents : F → Option Contents) (collector n : ℕ)
     (result : Result CollectReply Refusal)
-    (old new : Server F M) (st : State) : Type 0 where
+    (old new : Server F M W) (st : State) : Type 0 where
   pub visits : IsCount n
       → VisitsAt collector n result (server_cells contents old) old.collectors
       (server_cells contents new) new.collectors
   pub collects : Collects (server_cells contents old) (server_cells contents new) st
 
 -- if the rows are intact, keys of at most n rows are erased and none is added
-abbrev pub ThinsHeldCells : {F M : Type 0} → (F → Option Contents) → ℕ → Server F M → Server F M
-    → Type 0
+abbrev pub ThinsHeldCells : {F M W : Type 0} → (F → Option Contents) → ℕ → Server F M W
+    → Server F M W → Type 0
 ThinsHeldCells contents n old new =
     HoldsIn contents old
     → Thins n (server_cells contents old) (server_cells contents new)
 
 -- intact files keep the cells, though they are rewritten
-abbrev pub KeepsHeldCells : {F M : Type 0} → (F → Option Contents) → Server F M → Server F M
+abbrev pub KeepsHeldCells : {F M W : Type 0} → (F → Option Contents) → Server F M W → Server F M W
     → Type 0
 KeepsHeldCells contents old new =
     Holds contents (cluster_of old) → server_cells contents new ≡ server_cells contents old
@@ -70,8 +70,8 @@ ComesFirst refusal n = IsEarlyRefusal refusal ⊎ (n ≡ 1)
 -- command that writes files changes no cell if the files are intact, and any other request changes none, whatever the
 -- files contain. A scan agrees with reads of its cells, sends each value that it may, and looks at the full count of
 -- cells, unless none is left or the next item does not fit.
-abbrev pub ChangesCells : {F M : Type 0} → (F → Option Contents) → Request → Reply → Server F M
-    → Server F M → Type 0
+abbrev pub ChangesCells : {F M W : Type 0} → (F → Option Contents) → Request → Reply → Server F M W
+    → Server F M W → Type 0
 ChangesCells contents (Step start) (codec.Step progress) old new =
     (st : State) → Shows contents old st
     → TouchesFor st start (server_cells contents old) (server_cells contents new)
@@ -110,8 +110,8 @@ ChangesCells contents request reply old new =
 
 -- A request for sessions, cleaners, collectors or the oracle takes no room in memory, except a step, which takes the
 -- room of its edits. The room that a command or a checkpoint takes is given by its outcome.
-abbrev pub LeavesServerRoom : {F M : Type 0} → (F → Option Contents) → Request → Reply → Server F M
-    → Server F M → Type 0
+abbrev pub LeavesServerRoom : {F M W : Type 0} → (F → Option Contents) → Request → Reply
+    → Server F M W → Server F M W → Type 0
 LeavesServerRoom contents Begin reply old new =
     TakesNoRoom OverfillsRecorded (rows_of old) (rows_of new)
 LeavesServerRoom contents (Get start row family) reply old new =
@@ -201,21 +201,21 @@ KeepsCollectors (CollectStep collector n) reply old new =
 KeepsCollectors request reply old new = SameCollectors old new
 
 -- the mark is unchanged, or it is the end of the oracle's next range
-abbrev pub LeavesMark : {F M : Type 0} → (M → Option ℕ) → Server F M → Server F M → Type 0
+abbrev pub LeavesMark : {F M W : Type 0} → (M → Option ℕ) → Server F M W → Server F M W → Type 0
 LeavesMark mark old new =
     MayHold (next_range_end old.oracle.range_end) (mark (marks_of old)) (mark (marks_of new))
 
 -- The oracle is unchanged after a refused begin. If the mark could not be stored, only its last stamp and its range are
 -- unchanged.
-abbrev pub LeavesOracle : {F M : Type 0} → (M → Option ℕ) → Refusal → Server F M → Server F M
+abbrev pub LeavesOracle : {F M W : Type 0} → (M → Option ℕ) → Refusal → Server F M W → Server F M W
     → Type 0
 LeavesOracle mark Device old new = LeavesMark mark old new × SameNumbers old.oracle new.oracle
 LeavesOracle mark refusal old new = new.oracle ≡ old.oracle
 
 -- Only a begin, a step that draws a stamp, and a restart use the oracle. A restart leaves the mark unchanged. If a
 -- restart or a step is refused, the last stamp and the range are unchanged.
-abbrev pub KeepsOracle : {F M : Type 0} → (F → Option Contents) → (M → Option ℕ) → Request → Reply
-    → Server F M → Server F M → Type 0
+abbrev pub KeepsOracle : {F M W : Type 0} → (F → Option Contents) → (M → Option ℕ) → Request → Reply
+    → Server F M W → Server F M W → Type 0
 KeepsOracle contents mark Begin reply old new =
     IfRefused (λ refusal. LeavesOracle mark refusal old new) (replied reply)
 KeepsOracle contents mark (Step start) reply old new =

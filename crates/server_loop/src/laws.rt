@@ -10,14 +10,14 @@ use row_atomic::root_outlasts_flushes;
 /// The upkeep of `serve` between two requests leaves a server resting at the same state, if it doesn't merge by itself
 /// or if no merge is due.
 pub fn rests_between<F: Files, M: MarkStore>()
-    ensures { RestsBetween F.contents F.faults M.mark }
+    ensures { RestsBetween F.Files M.mark }
 {
     root_outlasts_flushes::<F>();
 }
 
 /// The files and the mark of a server that rests at a state keep the state.
 pub fn resting_is_kept<F: Files, M: MarkStore>()
-    ensures { RestingIsKept F.contents M.mark }
+    ensures { RestingIsKept F.Files M.mark }
 {}
 
 /// A Commit or a Read leaves the tablets' places unchanged, and what cleaners show.

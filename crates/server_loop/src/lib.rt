@@ -4,6 +4,7 @@
 mod cleaners;
 mod client_server;
 mod collectors;
+mod debt;
 mod frame_loop;
 mod frames;
 mod journals;

@@ -18,6 +18,7 @@ impl<F: Files + Drop, M: MarkStore + Drop> Server<F, M> {
     ghost use Rattle.server_loop.specs.Opening.{IsLost, LacksRoot};
     ghost use Rattle.server_loop.specs.Resting.{KeepsState, RestsAt};
     ghost use Rattle.server_loop.specs.Server.{IsConfig, Shows, cluster_of, tending_of, last_of, marks_of};
+    ghost use Rattle.server_loop.specs.Tending.{no_debt};
 
     /// Opens the store in these files and this mark store. Without a root file it is a new store. Only sessions,
     /// cleaners and collectors are forgotten.
@@ -53,7 +54,8 @@ impl<F: Files + Drop, M: MarkStore + Drop> Server<F, M> {
             IfSome (M.mark marks) (λ mark. last_of server ≡ mark)) }
         ensures mark { IfOk result (λ server. M.mark (marks_of server) ≡ M.mark marks) }
         ensures tending { IfOk result (λ server.
-            tending_of server ≡ record { flush = config.flush; merge = None; merged_to = 0 }) }
+            tending_of server
+            ≡ record { flush = config.flush; merge = None; merged_to = 0; debt = no_debt }) }
         // Unless the refusal is Device, both counts of faults are unchanged.
         ensures told { MatchResult result
             (λ server. (F.faults (cluster_of server).files ≡ F.faults files)

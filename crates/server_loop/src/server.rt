@@ -1,12 +1,13 @@
 //! The server: its state, its configuration, its answers and `serve`.
 
-ghost use Rattle.std.specs.Prelude.{◌≡◌, ◌≢◌, ◌≤◌, ◌<◌, ◌^◌, ◌⊎◌, IfErr, IfOk, IfSome, IsSome};
+ghost use Rattle.std.specs.Prelude.{◌≡◌, ◌≢◌, ◌≤◌, ◌<◌, ◌^◌, ◌⊎◌, IfErr, IfOk, IfSome, IsSome, Some, true};
 ghost use Rattle.cell_key.specs.Faults.{HasRisen};
 ghost use Rattle.row_atomic.specs.Clusters.{IsFirstTablet};
 ghost use Rattle.server_loop.specs.Serve.{Serves, ServesStream};
 ghost use Rattle.si_model.specs.Machine.{State, new_machine};
 
 use crate::client_server::Lookup;
+use crate::debt::Debt;
 use crate::frame_loop::{FrameHandler, Handler, Incoming, answer_incoming, serve_all};
 use crate::statuses::{End, ServeFault};
 use cell_key::{MOST_STAMP, Refusal, Stamp};
@@ -45,6 +46,8 @@ pub(crate) struct Tending {
     pub(crate) merge: Option<MergePolicy>,
     /// The name of the next file at the last merge: as long as it is the same, no file was written since. 0 at first.
     pub(crate) merged_to: u64,
+    /// What merges in levels owe.
+    pub(crate) debt: Debt,
 }
 
 /// A server: a cluster of tablets, an oracle of stamps, the active sessions, and the open cleaners and collectors.
@@ -52,7 +55,7 @@ pub(crate) struct Tending {
 /// Of the snapshot machine's state it stores only the sessions, the cleaners, the collectors and the places of the
 /// tablets. Commits, locks and rollbacks are in the cells alone.
 #[derive(Drop)]
-pub struct Server<F, M: MarkStore> {
+pub struct Server<F: Files, M: MarkStore> {
     pub(crate) alloc: Global,
     pub(crate) rows: Recorded<F>,
     pub(crate) oracle: Oracle<M>,
@@ -69,7 +72,7 @@ impl<F: Files + Drop, M: MarkStore + Drop> Server<F, M> {
     ghost use Rattle.server_loop.specs.Operations.{IsAnswerTo};
     ghost use Rattle.server_loop.specs.Resting.{KeepsResting};
     ghost use Rattle.row_atomic.specs.Commands.{IsOutcome};
-    ghost use Rattle.server_loop.specs.Tending.{IsTended, Merges, is_due};
+    ghost use Rattle.server_loop.specs.Tending.{IsNoted, IsTended, Merges, is_due, no_debt};
 
     /// A server with no session, cleaner or collector. `top` is the greatest stamp answered, and `floor` the greatest
     /// floor that a collector began with.
@@ -88,7 +91,7 @@ impl<F: Files + Drop, M: MarkStore + Drop> Server<F, M> {
         ensures last { last_of result ≡ oracle.last }
         ensures marks { marks_of result ≡ oracle.marks }
         ensures tending { tending_of result
-            ≡ record { flush = config.flush; merge = None; merged_to = 0 } }
+            ≡ record { flush = config.flush; merge = None; merged_to = 0; debt = no_debt } }
     {
         Server {
             alloc,
@@ -101,6 +104,7 @@ impl<F: Files + Drop, M: MarkStore + Drop> Server<F, M> {
                 flush: config.flush,
                 merge: None,
                 merged_to: 0,
+                debt: Debt::NONE,
             },
         }
     }
@@ -131,7 +135,8 @@ impl<F: Files + Drop, M: MarkStore + Drop> Server<F, M> {
         ensures mark { IfOk result (λ server. M.mark (marks_of server) ≡ M.mark marks) }
         ensures limit { IfOk result (λ server. (cluster_of server).file_limit ≡ config.file_limit) }
         ensures tending { IfOk result (λ server.
-            tending_of server ≡ record { flush = config.flush; merge = None; merged_to = 0 }) }
+            tending_of server
+            ≡ record { flush = config.flush; merge = None; merged_to = 0; debt = no_debt }) }
         ensures refusal { IfErr result (λ refused.
             (refused.0 ≡ Refusal.NoMemory) ⊎ (refused.0 ≡ Refusal.Device)) }
         ensures device { IfErr result (λ refused.
@@ -155,9 +160,11 @@ impl<F: Files + Drop, M: MarkStore + Drop> Server<F, M> {
         }
     }
 
-    /// From now on `serve` merges the newest files of each tablet as the policy says. It does so after its first reply,
-    /// and then after each reply if a file was written since the last merge. A refusal is not reported. Without this
-    /// call files are merged only on request.
+    /// From now on `serve` merges the newest files of each tablet as the policy says: after its first reply, and then
+    /// after each reply if a file was written since the last merge. By levels the tablets are merged one at a time, in
+    /// steps of 262,144 to 1,048,576 bytes of entries: one each 64 replies, and more as memtables grow and files are
+    /// written, until no merge is due. A refusal is not reported: the merge is tried again once a file was written.
+    /// Without this call files are merged only on request.
     pub fn merge_by(&mut self, policy: MergePolicy)
         ensures { self.new ≡ record self.old {
           tending = record (tending_of self.old) { merge = Some policy; merged_to = 0 };
@@ -198,32 +205,60 @@ impl<F: Files + Drop, M: MarkStore + Drop> Server<F, M> {
             || self.rows.cluster.next_name() != self.tending.merged_to
     }
 
-    /// Merges the tablets' newest files as the policy says, if there is one.
-    fn merge_newest(&mut self)
-        ensures merges { Merges F.contents F.faults (tending_of self.old).merge
+    /// Notes that nothing is to be merged until the next file is written.
+    fn note_merged(&mut self)
+        ensures { self.new ≡ record self.old {
+          tending = record (tending_of self.old) { merged_to = (cluster_of self.old).next_name };
+        } }
+    {
+        self.tending.merged_to = self.rows.cluster.next_name();
+    }
+
+    /// Does a step of a merge in levels, if enough is owed for one.
+    fn step_merge(&mut self)
+        ensures merges { Merges F.contents F.faults (Some MergePolicy.Levels)
             (cluster_of self.old) (cluster_of self.new) }
         ensures keeps { KeepsShown F.contents F.faults (cluster_of self.old) (cluster_of self.new) }
         ensures others { self.new ≡ record self.old {
           rows = record (rows_of self.old) { cluster = cluster_of self.new };
+          tending = tending_of self.new;
         } }
+        ensures flush { (tending_of self.new).flush ≡ (tending_of self.old).flush }
+        ensures policy { (tending_of self.new).merge ≡ (tending_of self.old).merge }
     {
-        if let Some(policy) = self.tending.merge {
-            self.rows.cluster.merge_many(policy);
+        let cluster = &mut self.rows.cluster;
+        self.tending
+            .debt
+            .grow(cluster.filled(), cluster.next_name());
+        let Some(bytes) = self.tending.debt.pay() else {
+            return;
+        };
+        if !cluster.merge_some(MergePolicy::Levels, bytes) {
+            self.tending.debt.forgive();
+            self.note_merged();
         }
     }
 
-    /// Merges as `merge_newest` does, and notes the name of the next file afterwards.
+    /// Merges the tablets' newest files as the policy says, if there is one; by levels, a step at most.
     fn merge_files(&mut self)
         ensures merges { Merges F.contents F.faults (tending_of self.old).merge
             (cluster_of self.old) (cluster_of self.new) }
         ensures keeps { KeepsShown F.contents F.faults (cluster_of self.old) (cluster_of self.new) }
         ensures others { self.new ≡ record self.old {
           rows = record (rows_of self.old) { cluster = cluster_of self.new };
-          tending = record (tending_of self.old) { merged_to = (cluster_of self.new).next_name };
+          tending = tending_of self.new;
         } }
+        ensures noted { IsNoted true (cluster_of self.new).next_name
+            (tending_of self.old) (tending_of self.new) }
     {
-        self.merge_newest();
-        self.tending.merged_to = self.rows.cluster.next_name();
+        match self.tending.merge {
+            None => self.note_merged(),
+            Some(MergePolicy::AtCount(count)) => {
+                self.rows.cluster.merge_many(MergePolicy::AtCount(count));
+                self.note_merged();
+            }
+            Some(MergePolicy::Levels) => self.step_merge(),
+        }
     }
 
     /// Dispatches a request to the function that answers it.

@@ -207,7 +207,7 @@ impl<F: Files + Drop, M: MarkStore + Drop> Server<F, M> {
     ///
     /// `Device` or `NoMemory`.
     pub fn put_flushed_root(&mut self) -> Result<(), Refusal>
-        ensures checkpoints { (first : Server F M)
+        ensures checkpoints { (first : Server F M F.Writing)
             → FlushesAll F.contents F.faults first outcome.Done self.old
             → ActsAsCheckpoint F.Files M.MarkStore first result self.new }
         ensures shown { (st : State) → Shows F.contents self.old st

@@ -180,7 +180,8 @@ where
     Ok(Some(log))
 }
 
-/// When files are merged without a request: at the number that the command line gives, or with upkeep by levels.
+/// When files are merged without a request: at the number that the command line gives, or with upkeep by levels. By levels
+/// a merge goes in steps, which come between two replies.
 fn merge_policy(options: &Options<'_>) -> Option<MergePolicy>
     ensures count { IfSome options.now.merge (λ most. result ≡ Some (MergePolicy.AtCount most)) }
     ensures levels { options.now.merge ≡ None → options.now.upkeep ≡ true

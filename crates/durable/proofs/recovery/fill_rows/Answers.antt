@@ -11,6 +11,6 @@ pub returns-clause-ok : goal.returns-clause-ok
 returns-clause-ok g c = λ old. elim c.if-is_new.branch [
   | then-is_new+in_ok-checkpoint w ↦ true_not_false c.args.is_new w.if-is_new.true old
   | else-is_new w ↦
-      subst (λ (r : Recorded g.row.F.Denot). OnOk c.replay.result ((root : RootView) → (base : Cells) → ShowsRoot g.F.Files.contents root base r.cluster → FollowsLog g.F.Files.contents root base c.args.edits.items c.replay.new.rows))
+      subst (λ (r : Recorded g.row.F.Denot g.row.F-Writing.Denot). OnOk c.replay.result ((root : RootView) → (base : Cells) → ShowsRoot g.F.Files.contents root base r.cluster → FollowsLog g.F.Files.contents root base c.args.edits.items c.replay.new.rows))
       w.rows-is c.replay.ensures.ok
 ]

@@ -53,7 +53,7 @@ returns-in-Ok-fill_rows-clause-named g c = names_top (g.F.Files.contents c.args.
 pub returns-in-Ok-fill_rows-clause-rooted : goal.returns-in-Ok-fill_rows-clause-rooted
 returns-in-Ok-fill_rows-clause-rooted g c = λ there.
     let old = rooted_not_new (g.F.Files.contents c.args.files) c.in-Ok.is_there c.in-Ok.ensures.ok there in
-    c.in-Ok-fill_rows.ensures.same old ∙ ap (λ (r : Recorded g.row.F.Denot). g.F.Files.contents r.cluster.files) c.new-rows.ensures ∙ c.in-Ok-open.ensures.files ∙ c.in-Ok.ensures.same
+    c.in-Ok-fill_rows.ensures.same old ∙ ap (λ (r : Recorded g.row.F.Denot g.row.F-Writing.Denot). g.F.Files.contents r.cluster.files) c.new-rows.ensures ∙ c.in-Ok-open.ensures.files ∙ c.in-Ok.ensures.same
 
 pub returns-in-Ok-fill_rows-clause-kept : goal.returns-in-Ok-fill_rows-clause-kept
 returns-in-Ok-fill_rows-clause-kept g c = λ m root base disk keeps over.
@@ -69,7 +69,7 @@ returns-in-Ok-fill_rows-clause-new g c = λ lacks.
     let lacks_now : LacksRoot (g.F.Files.contents c.has_root.new.files) = subst LacksRoot (sym c.in-Ok.ensures.same) lacks in
     let s : IsNewStore c.in-Ok-open.opened.1 c.in-Ok-open.opened.2 c.in-Ok-open.opened.0 = new_store (g.F.Files.contents c.has_root.new.files) None c.in-Ok-open.opened.1 c.in-Ok-open.opened.2 0 c.in-Ok-open.opened.0 lacks_now c.in-Ok-open.ensures.store in
     let holds : Holds g.F.Files.contents c.in-Ok-open.opened.0 = where_told (g.F.Files.contents c.has_root.new.files) (Holds g.F.Files.contents c.in-Ok-open.opened.0) lacks_now c.in-Ok-open.ensures.holds in
-    let cluster : c.new-rows.result.cluster ≡ c.in-Ok-open.opened.0 = ap (λ (r : Recorded g.row.F.Denot). r.cluster) c.new-rows.ensures in
+    let cluster : c.new-rows.result.cluster ≡ c.in-Ok-open.opened.0 = ap (λ (r : Recorded g.row.F.Denot g.row.F-Writing.Denot). r.cluster) c.new-rows.ensures in
     let follows = c.in-Ok-fill_rows.ensures.new is_new (subst (Holds g.F.Files.contents) (sym cluster) holds) in
     let begun : (c.args.edits.items ≡ []) × HasRecord (bytes_of c.args.records.now) any_root = elim c.else-is_new.branch [ else-is_new-via-then-is_new+else-not-is_of_new_store w ↦ new_begun c.args.edits.items _ (bytes_of c.args.records.now) w.is_of_new_store.result w.deref.ensures.value w.is_of_new_store.ensures w.if-not-is_of_new_store.false | else-is_new-via-else-is_new w ↦ never_new c.in-Ok.is_there is_new w.if-is_new.false ] in
     let none = begun.0 in (

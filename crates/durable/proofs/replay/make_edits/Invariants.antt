@@ -12,7 +12,7 @@ use Rattle.durable.proofs.replay.make_edits.Given as goal
 abbrev pub invariant-loop-edit : goal.invariant-loop-edit
 invariant-loop-edit g l =
     record {
-      leads : (new : Recorded g.row.F.Denot) → Replays g.F.Files.contents (into_iter_items l.edit-iterator) l.rows new → Replays g.F.Files.contents l.fn.edits.items l.fn.rows new;
+      leads : (new : Recorded g.row.F.Denot g.row.F-Writing.Denot) → Replays g.F.Files.contents (into_iter_items l.edit-iterator) l.rows new → Replays g.F.Files.contents l.fn.edits.items l.fn.rows new;
       stored : AllByRecursion IsStoredEdit (into_iter_items l.edit-iterator);
       stays : storage_of g.F.Files.contents l.rows.cluster ≡ storage_of g.F.Files.contents l.fn.rows.cluster;
       faults : g.F.Files.faults l.rows.cluster.files ≡ g.F.Files.faults l.fn.rows.cluster.files;

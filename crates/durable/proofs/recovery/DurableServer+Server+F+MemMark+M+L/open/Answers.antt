@@ -59,7 +59,7 @@ pub returns-in-Ok-open_server-clause-last : goal.returns-in-Ok-open_server-claus
 returns-in-Ok-open_server-clause-last g c = λ records in_log.
     let same = ap (λ (vs : List (Vec ℕ)). bytes_of vs) c.deref.ensures.value ∙ c.in-Ok.ensures.records records in_log in
     let made = subst (λ (rs : List (List ℕ)). IsMarkOf (g.M.MarkStore.mark c.args.marks) rs c.in-Ok-open_server.mark) same c.in-Ok-open_server.ensures.made.0 in
-    let last : last_of c.over.result.server ≡ c.in-Ok-open_server.mark.covered = ap (λ (s : Server g.row.F.Denot ℕ). last_of s) c.over.ensures.server ∙ c.in-Ok-open_server.ensures.last in
+    let last : last_of c.over.result.server ≡ c.in-Ok-open_server.mark.covered = ap (λ (s : Server g.row.F.Denot ℕ g.row.F-Writing.Denot). last_of s) c.over.ensures.server ∙ c.in-Ok-open_server.ensures.last in
     subst (λ (n : ℕ). IfSome (g.M.MarkStore.mark c.args.marks) (λ number. IsGreatest number records n)) (sym last) (greatest_told (g.M.MarkStore.mark c.args.marks) records c.in-Ok-open_server.mark made)
 
 pub returns-clause-kept : goal.returns-clause-kept
@@ -95,7 +95,7 @@ pub returns-clause-refusal : goal.returns-clause-refusal
 returns-clause-refusal g c = c.in-Err-open_server.ensures.refusal.0
 
 pub returns-in-Ok-open_server-clause-limit : goal.returns-in-Ok-open_server-clause-limit
-returns-in-Ok-open_server-clause-limit g c = ap (λ (s : Server g.row.F.Denot ℕ). (cluster_of s).file_limit) c.over.ensures.server ∙ c.in-Ok-open_server.ensures.options.0
+returns-in-Ok-open_server-clause-limit g c = ap (λ (s : Server g.row.F.Denot ℕ g.row.F-Writing.Denot). (cluster_of s).file_limit) c.over.ensures.server ∙ c.in-Ok-open_server.ensures.options.0
 
 pub returns-in-Ok-open_server-clause-tending : goal.returns-in-Ok-open_server-clause-tending
-returns-in-Ok-open_server-clause-tending g c = ap (λ (s : Server g.row.F.Denot ℕ). tending_of s) c.over.ensures.server ∙ c.in-Ok-open_server.ensures.options.1
+returns-in-Ok-open_server-clause-tending g c = ap (λ (s : Server g.row.F.Denot ℕ g.row.F-Writing.Denot). tending_of s) c.over.ensures.server ∙ c.in-Ok-open_server.ensures.options.1

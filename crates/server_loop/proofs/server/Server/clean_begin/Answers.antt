@@ -21,7 +21,7 @@ returns-in-Ok g c = let told = c.in-Ok.ensures in record {
 
 pub returns-in-Err : goal.returns-in-Err
 returns-in-Err g c = let told = c.in-Err.ensures in record {
-  step = record { step = cleans_as _ _ _ _ _ tt refl refl refl refl (λ st reached shown. unchanged_if _ _ st (told.reads.kept)) told.step told.reads.still told.reads.stays (λ held st reached cells cleaners. err_undamaged _ _ refl (told.undamaged ((seen_recorded g.F.Files.contents).each_readable _ held _) st reached cells cleaners)); refusal = told.refusal; limits = tt };
+  step = record { step = cleans_as _ _ _ _ _ tt refl refl refl refl (λ st reached shown. unchanged_if _ _ st (told.reads.kept)) told.step told.reads.still told.reads.stays (λ held st reached cells cleaners. err_undamaged _ _ refl (told.undamaged ((seen_recorded {W = g.row.F-Writing.Denot} g.F.Files.contents).each_readable _ held _) st reached cells cleaners)); refusal = told.refusal; limits = tt };
   stamps = record { last = refl; restarted = tt; exhausted = λ is. λ st shown. told.exhausted (as_err _ _ _ refl is) st shown.cleaners };
   edits = record { changes = told.reads.kept; room = told.reads.room };
   sessions = record { told = λ st shown. tt; sessions = record { top = refl; buffered = refl; limit = refl; each = λ t. refl }; cleaners = told.err; collectors = record { next = refl; floor = refl; each = λ i. refl; count = refl }; oracle = refl };

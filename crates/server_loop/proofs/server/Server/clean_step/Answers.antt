@@ -22,7 +22,7 @@ returns-in-Ok g c = let told = c.in-Ok.ensures in record {
 
 pub returns-in-Err : goal.returns-in-Err
 returns-in-Err g c = let told = c.in-Err.ensures in record {
-  step = record { step = cleans_as _ _ _ _ _ tt refl refl refl refl (λ st reached shown. unchanged_if _ _ st (told.same.kept)) told.step told.below.still told.below.stays (λ held st reached cells cleaners. err_undamaged _ _ refl (told.undamaged (λ k is. (seen_recorded g.F.Files.contents).each_readable _ held _) st reached cells cleaners)); refusal = told.refusal.0; limits = tt };
+  step = record { step = cleans_as _ _ _ _ _ tt refl refl refl refl (λ st reached shown. unchanged_if _ _ st (told.same.kept)) told.step told.below.still told.below.stays (λ held st reached cells cleaners. err_undamaged _ _ refl (told.undamaged (λ k is. (seen_recorded {W = g.row.F-Writing.Denot} g.F.Files.contents).each_readable _ held _) st reached cells cleaners)); refusal = told.refusal.0; limits = tt };
   stamps = record { last = refl; restarted = tt; exhausted = λ _. tt };
   edits = record { changes = told.same.kept; room = told.same.room };
   sessions = record { told = λ st shown gone. as_refused _ _ _ refl (told.unknown st shown.cleaners gone); sessions = record { top = refl; buffered = refl; limit = refl; each = λ t. refl }; cleaners = told.err; collectors = record { next = refl; floor = refl; each = λ i. refl; count = refl }; oracle = refl };

@@ -35,7 +35,7 @@ returns-in-Ok g c = let told = c.in-Ok.ensures in rw c.collected.ensures.reply (
 
 pub returns-in-Err : goal.returns-in-Err
 returns-in-Err g c = let told = c.in-Err.ensures in record {
-  step = record { step = collects_as _ _ _ _ _ tt refl refl refl refl (λ st reached shown. told.step shown.in_order st (by_servers reached) shown.shows.store shown.collectors) told.below.still told.below.stays (λ st reached shown. err_undamaged _ _ refl (told.undamaged (λ c c2 is is2 row from. (seen_recorded g.F.Files.contents).each_readable _ shown.in_order row) st (by_servers reached) shown.shows.store shown.collectors)); refusal = told.refusal.0; limits = tt };
+  step = record { step = collects_as _ _ _ _ _ tt refl refl refl refl (λ st reached shown. told.step shown.in_order st (by_servers reached) shown.shows.store shown.collectors) told.below.still told.below.stays (λ st reached shown. err_undamaged _ _ refl (told.undamaged (λ c c2 is is2 row from. (seen_recorded {W = g.row.F-Writing.Denot} g.F.Files.contents).each_readable _ shown.in_order row) st (by_servers reached) shown.shows.store shown.collectors)); refusal = told.refusal.0; limits = tt };
   stamps = record { last = refl; restarted = tt; exhausted = λ _. tt };
   edits = record {
     changes = (

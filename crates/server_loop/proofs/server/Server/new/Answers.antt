@@ -14,7 +14,7 @@ two_reasons refusal memory device = cc
 
 pub returns-in-Ok-open-clause-new : goal.returns-in-Ok-open-clause-new
 returns-in-Ok-open-clause-new g c = λ told. c.without_sessions.ensures.shown new_machine (rw c.new-rows.ensures (record {
-  in_order = (rw c.in-Ok.ensures.files (c.in-Ok.ensures.holds told), tt);
+  in_order = (c.in-Ok.ensures.holds told, tt);
   store = rw c.in-Ok.ensures.files (subst (λ (cells : Cells). ShowsCells cells new_machine) (sym c.in-Ok.ensures.cells) new_cells);
   places = ap (λ (places : List PlaceView). machine_places places) c.in-Ok.ensures.places;
   next = refl;

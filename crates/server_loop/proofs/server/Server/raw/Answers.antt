@@ -53,7 +53,7 @@ returns-in-Ok-newest g c =
       stamps = record { last = refl; restarted = tt; exhausted = λ _. tt };
       edits = record { changes = told.reads.kept; room = tt };
       sessions = record { told = λ st shown. tt; sessions = record { top = refl; buffered = refl; limit = refl; each = λ t. refl }; cleaners = record { next = refl; each = λ i. refl; count = refl }; collectors = record { next = refl; floor = refl; each = λ i. refl; count = refl }; oracle = refl };
-      tablets = inl (rw (← c.in-Ok.ensures.ok) (rw (← c.in-Ok-new.ensures.ok) (found_outcome g.F.Files.contents g.F.Files.faults c.in-Ok.row c.in-Ok-new.family c.args.qualifier c.args.lo c.args.hi c.in-Ok-newest.found _ _ told.reads.still (λ held. told.found (all_readable _ _ _ _ held _)) told.reads.kept told.reads.stays told.reads.room (told.reason.told (ok_not _ _)))));
+      tablets = inl (rw (← c.in-Ok.ensures.ok) (rw (← c.in-Ok-new.ensures.ok) (found_outcome g.F.Files.contents g.F.Files.faults c.in-Ok.row c.in-Ok-new.family c.args.qualifier c.args.lo c.args.hi c.in-Ok-newest.found _ _ told.reads.still (λ held. told.found (all_readable _ _ _ _ held.0 _)) told.reads.kept told.reads.stays told.reads.room (told.reason.told (ok_not _ _)))));
       causes = record { device = λ is. absurd (not_done _ _ tt is); told = λ _. record { files = told.reason.told (ok_not _ _); marks = refl }; full = λ _. tt; damaged = λ _. tt };
       tending = refl;
       logged = refl;
@@ -64,11 +64,11 @@ returns g c =
     let told = c.in-Err-newest.ensures in
     let refusal = is_read_refusal _ c.in-Err-newest.refusal told.refusal in
     record {
-      step = record { step = tells_as _ _ _ (λ held. (told.reads.still held, told.reads.kept)) (λ held. follows_stored _ c.root_is_stored.ensures _ _ _ told.reads.stays told.reads.kept) refl refl refl refl _ _ (ap spots_in told.reads.stays) (λ st shown. refuses (raw_refuses st _ _ _ _ _ refusal)) (λ held. name_undamaged _ (read_undamaged _ _ told.refusal (all_readable _ _ _ _ held _))); refusal = raw_refused _ refusal; limits = tt };
+      step = record { step = tells_as _ _ _ (λ held. (told.reads.still held, told.reads.kept)) (λ held. follows_stored _ c.root_is_stored.ensures _ _ _ told.reads.stays told.reads.kept) refl refl refl refl _ _ (ap spots_in told.reads.stays) (λ st shown. refuses (raw_refuses st _ _ _ _ _ refusal)) (λ held. name_undamaged _ (read_undamaged _ _ told.refusal (all_readable _ _ _ _ held.0 _))); refusal = raw_refused _ refusal; limits = tt };
       stamps = record { last = refl; restarted = tt; exhausted = λ _. tt };
       edits = record { changes = told.reads.kept; room = tt };
       sessions = record { told = λ st shown. tt; sessions = record { top = refl; buffered = refl; limit = refl; each = λ t. refl }; cleaners = record { next = refl; each = λ i. refl; count = refl }; collectors = record { next = refl; floor = refl; each = λ i. refl; count = refl }; oracle = refl };
-      tablets = inl (rw (← c.in-Ok.ensures.ok) (rw (← c.in-Ok-new.ensures.ok) (refused_outcome g.F.Files.contents g.F.Files.faults c.in-Ok.row c.in-Ok-new.family c.args.qualifier c.args.lo c.args.hi c.in-Err-newest.refusal _ _ told.reads.still told.reads.kept (λ held. read_undamaged _ _ told.refusal (all_readable _ _ _ _ held _)) told.damaged told.reads.stays told.reads.room refusal told.reason.later told.reason.device told.reason.told)));
+      tablets = inl (rw (← c.in-Ok.ensures.ok) (rw (← c.in-Ok-new.ensures.ok) (refused_outcome g.F.Files.contents g.F.Files.faults c.in-Ok.row c.in-Ok-new.family c.args.qualifier c.args.lo c.args.hi c.in-Err-newest.refusal _ _ told.reads.still told.reads.kept (λ held. read_undamaged _ _ told.refusal (all_readable _ _ _ _ held.0 _)) told.damaged told.reads.stays told.reads.room refusal told.reason.later told.reason.device told.reason.told)));
       causes = record { device = λ is. inl (told.reason.device (as_err _ _ _ refl is)); told = λ none. record { files = told.reason.told (λ is. none (as_refused _ _ _ refl is)); marks = refl }; full = λ _. tt; damaged = λ _. tt };
       tending = refl;
       logged = refl;

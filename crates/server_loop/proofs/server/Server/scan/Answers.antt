@@ -21,7 +21,7 @@ returns-in-Ok g c = let told = c.in-Ok.ensures in record {
 
 pub returns-in-Err : goal.returns-in-Err
 returns-in-Err g c = let told = c.in-Err.ensures in record {
-  step = record { step = steps_as _ _ _ _ _ tt refl refl refl (λ st reached shown. unchanged_if _ _ st (told.reads.kept)) (λ h. told.step h _) told.reads.still told.reads.stays (λ st reached held shown. err_undamaged _ _ refl (told.undamaged (λ row from. (seen_recorded g.F.Files.contents).each_readable _ held row) st (by_servers reached) shown.store)); refusal = told.refusal; limits = tt };
+  step = record { step = steps_as _ _ _ _ _ tt refl refl refl (λ st reached shown. unchanged_if _ _ st (told.reads.kept)) (λ h. told.step h _) told.reads.still told.reads.stays (λ st reached held shown. err_undamaged _ _ refl (told.undamaged (λ row from. (seen_recorded {W = g.row.F-Writing.Denot} g.F.Files.contents).each_readable _ held row) st (by_servers reached) shown.store)); refusal = told.refusal; limits = tt };
   stamps = record { last = refl; restarted = tt; exhausted = λ _. tt };
   edits = record { changes = told.reads.kept; room = told.reads.room };
   sessions = record { told = λ st shown gone. as_refused _ _ _ refl (told.unknown st shown.shows.sessions gone); sessions = record { top = refl; buffered = refl; limit = refl; each = λ t. refl }; cleaners = record { next = refl; each = λ i. refl; count = refl }; collectors = record { next = refl; floor = refl; each = λ i. refl; count = refl }; oracle = refl };

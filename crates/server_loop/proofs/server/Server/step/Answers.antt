@@ -23,7 +23,7 @@ returns-in-Ok g c = let told = c.in-Ok.ensures in record {
 
 pub returns-in-Err : goal.returns-in-Err
 returns-in-Err g c = let told = c.in-Err.ensures in record {
-  step = record { step = steps_as _ _ _ _ _ tt refl refl refl (λ st reached shown. unchanged_if _ _ st (told.refused.same.kept)) told.step told.below.still told.below.stays (λ st reached held shown. err_undamaged _ _ refl (told.undamaged (λ session is write at. (seen_recorded g.F.Files.contents).each_readable _ held _))); refusal = told.refusal; limits = tt };
+  step = record { step = steps_as _ _ _ _ _ tt refl refl refl (λ st reached shown. unchanged_if _ _ st (told.refused.same.kept)) told.step told.below.still told.below.stays (λ st reached held shown. err_undamaged _ _ refl (told.undamaged (λ session is write at. (seen_recorded {W = g.row.F-Writing.Denot} g.F.Files.contents).each_readable _ held _))); refusal = told.refusal; limits = tt };
   stamps = record { last = (left_numbers g.M.MarkStore.mark _ _ told.refused.left).last; restarted = tt; exhausted = λ same. let none = told.no_stamp (as_err _ _ _ refl same) in (none.exhausted, λ st shown. none.draw_only st shown.shows.sessions) };
   edits = record { changes = told.refused.same.kept; room = told.refused.same.room };
   sessions = record { told = λ st shown. (λ gone. as_refused _ _ _ refl ((told.causes st shown.shows.sessions).unknown gone), λ empty. as_refused _ _ _ refl ((told.causes st shown.shows.sessions).empty empty), λ about. (told.causes st shown.shows.sessions).drawing about); sessions = told.err; cleaners = record { next = refl; each = λ i. refl; count = refl }; collectors = record { next = refl; floor = refl; each = λ i. refl; count = refl }; oracle = (λ st shown. told.aside st shown.shows.sessions, (left_mark g.M.MarkStore.mark _ _ told.refused.left, left_numbers g.M.MarkStore.mark _ _ told.refused.left)) };

@@ -33,7 +33,7 @@ returns-in-Err g c = let told = c.in-Err.ensures in record {
   gives = refl;
   at_once = record {
     goes = reads_go g.F.Files.contents _ _ _ _ tt refl refl told.reads told.step
-        (λ st reached held shown. given_undamaged _ _ refl (told.undamaged (λ row at. (seen_recorded g.F.Files.contents).each_readable _ held row) st (by_servers reached) shown.store));
+        (λ st reached held shown. given_undamaged _ _ refl (told.undamaged (λ row at. (seen_recorded {W = g.row.F-Writing.Denot} g.F.Files.contents).each_readable _ held row) st (by_servers reached) shown.store));
     refusal = told.refusal;
     limits = tt;
     others = others_stay g.F.Files.contents _ _ refl refl refl told.reads.stays;

@@ -2,8 +2,8 @@ use Rattle.std.proofs.Common.{◌∙◌, Bool, Option, ap, refl, subst, sym}
 use Rattle.row_atomic.specs.Journals.{JournalView}
 use Rattle.row_atomic.specs.Recorded.{Follows}
 use Rattle.server_loop.specs.Server.{cluster_of, tending_of}
-use Rattle.server_loop.specs.Tending.{MergesWhere, merged_to}
-use Rattle.server_loop.proofs.Tended.{keeps_both, still_shown, tends_follow}
+use Rattle.server_loop.specs.Tending.{IsNoted, MergesWhere}
+use Rattle.server_loop.proofs.Tended.{keeps_both, not_due, still_shown, tends_follow}
 use Rattle.server_loop.proofs.server.ServerHandler.tend.Goals as goal
 
 pub returns-then-due-clause-between : goal.returns-then-due-clause-between
@@ -23,8 +23,8 @@ returns-then-due-clause-between g c = record {
   collectors = ap (λ s. s.collectors) c.merge_files.ensures.others;
   oracle = ap (λ s. s.oracle) c.merge_files.ensures.others;
   journal = ap (λ s. s.rows.journal) c.merge_files.ensures.others;
-  tending = ap (λ s. s.tending) c.merge_files.ensures.others
-      ∙ ap (λ (b : Bool). merged_to b (tending_of c.args.self.now) (cluster_of c.merge_files.new.self).next_name) (sym c.if-due.true ∙ c.is_merge_due-due.ensures);
+  tending = subst (λ (b : Bool). IsNoted b (cluster_of c.merge_files.new.self).next_name (tending_of c.args.self.now) (tending_of c.merge_files.new.self))
+      (sym c.if-due.true ∙ c.is_merge_due-due.ensures) c.merge_files.ensures.noted;
 }
 
 pub returns-then-due-clause-shown : goal.returns-then-due-clause-shown
@@ -47,7 +47,8 @@ returns-else-due-clause-between g c = record {
   collectors = refl;
   oracle = refl;
   journal = refl;
-  tending = ap (λ (b : Bool). merged_to b (tending_of c.args.self.now) c.compact_full.new.self.next_name) (sym c.if-due.false ∙ c.is_merge_due-due.ensures);
+  tending = subst (λ (b : Bool). IsNoted b c.compact_full.new.self.next_name (tending_of c.args.self.now) (tending_of c.args.self.now))
+      (sym c.if-due.false ∙ c.is_merge_due-due.ensures) (not_due _ _);
 }
 
 pub returns-else-due-clause-shown : goal.returns-else-due-clause-shown
