@@ -61,8 +61,8 @@ pub struct Options<'a> {
     pub cache: u32,
     /// The most bytes that the writes of all sessions may have: 1,048,576 or more. None: there is no limit.
     pub session_bytes: Option<u32>,
-    /// Whether the store keeps house by itself: files are merged by levels if no number is given, and a checkpoint that a
-    /// log makes due is followed by a sweep of the files that nothing needs.
+    /// Whether the store keeps house by itself: files are merged by levels, in steps, if no number is given, and a
+    /// checkpoint that a log makes due is followed by a sweep of the files that nothing needs.
     pub upkeep: bool,
     /// Whether several clients share the streams: each body begins with a client's number.
     pub clients: bool,

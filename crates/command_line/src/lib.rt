@@ -62,9 +62,9 @@ const SESSION_BYTES_HELP: &str =
     is refused NoMemory: 1048576 to 4294967295 [default: no limit]";
 
 const UPKEEP_HELP: &str =
-    "Merge a tablet's newest files after a file was written, so that each has more entries than all newer ones together; in \
-    a folder with a log, remove the files that neither a tablet nor the root needs after each checkpoint that comes by \
-    itself [default: only a Merge or a Major merges, and only a Sweep removes files]";
+    "Merge tablets' newest files after a file was written, a step between two replies, so that each has more entries than \
+    all newer ones together; in a folder with a log, remove the files that neither a tablet nor the root needs after each \
+    checkpoint that comes by itself [default: only a Merge or a Major merges, and only a Sweep removes files]";
 
 const CLIENTS_HELP: &str =
     "Serve several clients, each with its own sessions, cleaners and collectors: the body of each request and reply begins \

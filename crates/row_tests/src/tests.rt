@@ -4,6 +4,7 @@ mod asks;
 mod caches;
 mod clusters;
 mod memory;
+mod merges;
 mod recorded;
 mod shared;
 mod stamps;
