@@ -137,8 +137,8 @@ module _ {F : Type 0} (contents : F → Option Contents) (stored : RootIsStored 
   )
 
   pub follows_log : {W : Type 0} (old : ClusterState F) (mid : Recorded F W) (edits : List Edit) (root : RootView) (base : Cells) → ShowsRoot contents root base old → AllByRecursion IsStoredEdit edits → Replays contents edits (record { cluster = old; journal = Some empty_journal }) mid
-      → FollowsLog contents root base edits (record { cluster = mid.cluster; journal = Some (logged_journal edits) })
-  follows_log old mid edits root base shows all made =
+      → FollowsLog {W = W} contents root base edits (record { cluster = mid.cluster; journal = Some (logged_journal edits) })
+  follows_log {W} old mid edits root base shows all made =
       let from = starts old root base shows in
       let has = (stored root base old mid.cluster made.stays).0 shows.has in
       let cells = made.made from ∙ ap (λ (cells : Cells). after_edits cells edits) shows.shows in

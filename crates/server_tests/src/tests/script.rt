@@ -308,7 +308,7 @@ fn made<F: Files + Drop, M: MarkStore + Drop>(
 
 /// A server, the refusal that may come once, and the outcome of the script.
 #[derive(Drop)]
-struct Play<'a, F, M: MarkStore> {
+struct Play<'a, F: Files, M: MarkStore> {
     server: Server<F, M>,
     run: Run<'a>,
     came: Came,
