@@ -56,11 +56,12 @@ fn step(cluster: &mut Cluster<MemFiles>) -> bool {
 
 /// Makes steps as long as there may be more, at most 20; answers how many there were.
 fn steps(cluster: &mut Cluster<MemFiles>) -> u64 {
-    let mut count = 0;
-    while count < 20 && step(cluster) {
-        count += 1;
+    for count in 0..20 {
+        if !step(cluster) {
+            return count;
+        }
     }
-    count
+    20
 }
 
 /// How many files tablet 1 has.
