@@ -89,6 +89,7 @@ from duqishom.progress import Reached, Report, unreported
 from duqishom.refusals import BadRequest, Refused, TooManySessions, UnknownSession
 from duqishom.remote import Address, ConnectionLost, Fate, address_of
 from duqishom.reports import ServerStatus
+from duqishom.reverse import ReverseScan
 from duqishom.scans import (
     FEW_CELLS,
     GROWTH,
@@ -345,10 +346,13 @@ class Store:
         after: bytes | None = None,
         before: bytes | None = None,
         limit: int | None = None,
+        reverse: bool = False,
     ) -> AsyncIterator[Row]:
         """The rows of a range, for `async for`, as `Store.rows` of the other twin gives them."""
         asked, limit = range_of(start, end, prefix, None, after, before), checked_limit(limit)
         cells = cells_of(limit)
+        if reverse:
+            return rows_of_async(self._all(asked, False, None, cells, True), limit, True)
         if limit is None or cells is None or cells > FEW_CELLS:
             return rows_of_async(self._all(asked, False, None), limit)
         return self._first(asked, False, cells, partial(first_rows, limit), lambda found: rows_of_async(found, limit))
@@ -397,6 +401,7 @@ class Store:
         after: bytes | None = None,
         before: bytes | None = None,
         limit: int | None = None,
+        reverse: bool = False,
     ) -> AsyncIterator[tuple[bytes, bytes, bytes]]: ...
 
     @overload
@@ -411,6 +416,7 @@ class Store:
         after: bytes | None = None,
         before: bytes | None = None,
         limit: int | None = None,
+        reverse: bool = False,
     ) -> AsyncIterator[tuple[bytes, bytes, None]]: ...
 
     @overload
@@ -434,18 +440,27 @@ class Store:
         return self._entries(start, *bounds, **options)
 
     def _entries(
-        self, start: bytes | None = None, end: bytes | None = None, *, limit: int | None = None, keys: bool = False, **bounds: Any
+        self,
+        start: bytes | None = None,
+        end: bytes | None = None,
+        *,
+        limit: int | None = None,
+        keys: bool = False,
+        reverse: bool = False,
+        **bounds: Any,
     ) -> AsyncIterator[Entry]:
         """The cells of a range. Its bounds are checked at once."""
         asked, limit = range_of(start, end, **bounds), checked_limit(limit)
-        if limit is None or limit > FEW_CELLS:
-            return self._all(asked, keys, limit)
+        if limit is None or limit > FEW_CELLS or reverse:
+            return self._all(asked, keys, limit, reverse=reverse)
         return self._first(asked, keys, limit, partial(first_cells, limit), partial(cells_of_async, limit=limit))
 
-    async def _all(self, asked: CellRange, keys: bool, limit: int | None) -> AsyncGenerator[Entry, None]:
-        """The cells of a range, from a snapshot that is read as the iterator goes on."""
+    async def _all(
+        self, asked: CellRange, keys: bool, limit: int | None, cells: int | None = None, reverse: bool = False
+    ) -> AsyncGenerator[Entry, None]:
+        """The cells of a range, from a snapshot that is read as the iterator goes on. The first batch has so many."""
         async with Snapshot(self, begins_later=True) as snapshot:
-            async for entry in snapshot.entries(asked, keys, limit):
+            async for entry in snapshot.entries(asked, keys, limit, True, cells, reverse):
                 yield entry
 
     async def _first(
@@ -795,11 +810,12 @@ class Snapshot:
         before: bytes | None = None,
         own: bool = True,
         limit: int | None = None,
+        reverse: bool = False,
     ) -> AsyncIterator[Row]:
         """The rows of a range that have a value, in order, each with the dictionary that `row` gives, for `async for`: as `rows` of
         the other twin gives them."""
         asked, limit = range_of(start, end, prefix, None, after, before), checked_limit(limit)
-        return rows_of_async(self.entries(asked, False, None, own, cells_of(limit)), limit)
+        return rows_of_async(self.entries(asked, False, None, own, cells_of(limit), reverse), limit, reverse)
 
     @overload
     def scan(
@@ -814,6 +830,7 @@ class Snapshot:
         after: bytes | None = None,
         before: bytes | None = None,
         limit: int | None = None,
+        reverse: bool = False,
     ) -> AsyncIterator[tuple[bytes, bytes, bytes]]: ...
 
     @overload
@@ -829,6 +846,7 @@ class Snapshot:
         after: bytes | None = None,
         before: bytes | None = None,
         limit: int | None = None,
+        reverse: bool = False,
     ) -> AsyncIterator[tuple[bytes, bytes, None]]: ...
 
     def scan(
@@ -843,10 +861,11 @@ class Snapshot:
         after: bytes | None = None,
         before: bytes | None = None,
         limit: int | None = None,
+        reverse: bool = False,
     ) -> AsyncIterator[Entry]:
         """The cells that have a value, in order, each as its row, its family and its value, for `async for`: as `scan` of the
         other twin gives them."""
-        return self.entries(range_of(start, end, prefix, family, after, before), keys, limit, own)
+        return self.entries(range_of(start, end, prefix, family, after, before), keys, limit, own, reverse=reverse)
 
     async def count(
         self,
@@ -866,12 +885,18 @@ class Snapshot:
         return count
 
     def entries(
-        self, asked: CellRange, keys: bool, limit: int | None, own: bool = True, cells: int | None = None
+        self,
+        asked: CellRange,
+        keys: bool,
+        limit: int | None,
+        own: bool = True,
+        cells: int | None = None,
+        reverse: bool = False,
     ) -> AsyncGenerator[Entry, None]:
         """The cells of a range, as `scan` gives them. The first batch has so many."""
-        return self._pieces(self.session.scan(asked, keys, own, limit, cells))
+        return self._pieces(self.session.scan(asked, keys, own, limit, cells, reverse))
 
-    async def _pieces(self, scan: RangeScan) -> AsyncGenerator[Entry, None]:
+    async def _pieces(self, scan: RangeScan | ReverseScan) -> AsyncGenerator[Entry, None]:
         """The cells of a scan, piece by piece."""
         while piece := await self._do(scan.piece()):
             for entry in piece:

@@ -82,10 +82,13 @@ class AutoCommit:
         after: bytes | None = None,
         before: bytes | None = None,
         limit: int | None = None,
+        reverse: bool = False,
     ) -> Iterator[Row]:
         """The rows of a range, as a transaction's `rows` gives them, from one snapshot that ends with the iterator."""
         asked, limit = range_of(start, end, prefix, None, after, before), checked_limit(limit)
         cells = cells_of(limit)
+        if reverse:
+            return rows_of(self._all(asked, False, None, cells, True), limit, True)
         if limit is None or cells is None or cells > FEW_CELLS:
             return rows_of(self._all(asked, False, None), limit)
         return self._first(asked, False, cells, partial(first_rows, limit), lambda found: rows_of(found, limit))
@@ -133,6 +136,7 @@ class AutoCommit:
         after: bytes | None = None,
         before: bytes | None = None,
         limit: int | None = None,
+        reverse: bool = False,
     ) -> Iterator[tuple[bytes, bytes, bytes]]: ...
 
     @overload
@@ -147,6 +151,7 @@ class AutoCommit:
         after: bytes | None = None,
         before: bytes | None = None,
         limit: int | None = None,
+        reverse: bool = False,
     ) -> Iterator[tuple[bytes, bytes, None]]: ...
 
     @overload
@@ -177,18 +182,21 @@ class AutoCommit:
         *,
         limit: int | None = None,
         keys: bool = False,
+        reverse: bool = False,
         **bounds: Any,
     ) -> Iterator[Entry]:
         """The cells of a range. Its bounds are checked at once."""
         asked, limit = range_of(start, end, **bounds), checked_limit(limit)
-        if limit is None or limit > FEW_CELLS:
-            return self._all(asked, keys, limit)
+        if limit is None or limit > FEW_CELLS or reverse:
+            return self._all(asked, keys, limit, reverse=reverse)
         return self._first(asked, keys, limit, partial(first_cells, limit), lambda found: islice(found, limit))
 
-    def _all(self, asked: CellRange, keys: bool, limit: int | None) -> Iterator[Entry]:
-        """The cells of a range, from a snapshot that is read as the iterator goes on."""
+    def _all(
+        self, asked: CellRange, keys: bool, limit: int | None, cells: int | None = None, reverse: bool = False
+    ) -> Iterator[Entry]:
+        """The cells of a range, from a snapshot that is read as the iterator goes on. The first batch has so many."""
         with self._snapshot_later() as snapshot:
-            yield from snapshot.entries(asked, keys, limit)
+            yield from snapshot.entries(asked, keys, limit, True, cells, reverse)
 
     def _first(
         self,

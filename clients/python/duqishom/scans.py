@@ -65,6 +65,11 @@ class RangeScan:
             return self._take_sent()
         return (yield from self._take_unsent())
 
+    @property
+    def is_done(self) -> bool:
+        """Whether all cells are given, as far as that is known."""
+        return self._asked is None and not self._found
+
     def _look_on(self, asked: CellRange) -> Plan[None]:
         """Asks for the next batch. If it had too few cells, the next one is larger."""
         answer = yield from self._session.ask(request_of(asked, self._keys, self._cells, self._is_near))
@@ -159,10 +164,10 @@ def first_rows(limit: int, piece: Piece) -> list[Row] | None:
     return rows[:limit] if piece.upto is None or len(rows) > limit else None
 
 
-def rows_of(entries: Iterable[Entry], limit: int | None) -> Iterator[Row]:
-    """The first so many rows in which these cells are."""
+def rows_of(entries: Iterable[Entry], limit: int | None, reverse: bool = False) -> Iterator[Row]:
+    """The first so many rows in which these cells are, which may come in descending order."""
     for row, cells in islice(groupby(entries, itemgetter(0)), limit):
-        yield row, values_of_row(cells)
+        yield row, values_of_row(cells, reverse)
 
 
 async def cells_of_async(entries: AsyncGenerator[Entry, None], limit: int) -> AsyncIterator[Entry]:
@@ -175,20 +180,23 @@ async def cells_of_async(entries: AsyncGenerator[Entry, None], limit: int) -> As
             yield entry
 
 
-async def rows_of_async(entries: AsyncGenerator[Entry, None], limit: int | None) -> AsyncIterator[Row]:
-    """The first so many rows in which these cells are."""
+async def rows_of_async(
+    entries: AsyncGenerator[Entry, None], limit: int | None, reverse: bool = False
+) -> AsyncIterator[Row]:
+    """The first so many rows in which these cells are, which may come in descending order."""
     cells: list[Entry] = []
     async with aclosing(entries):
         while limit != 0:
             entry = await anext(entries, None)
             if cells and (entry is None or entry[0] != cells[0][0]):
-                yield cells[0][0], values_of_row(cells)
+                yield cells[0][0], values_of_row(cells, reverse)
                 cells, limit = [], None if limit is None else limit - 1
             if entry is None:
                 return
             cells.append(entry)
 
 
-def values_of_row(entries: Iterable[Entry]) -> dict[bytes, bytes]:
-    """The values of a row's cells, by their families."""
-    return {family: value for _, family, value in entries if value is not None}
+def values_of_row(entries: Iterable[Entry], reverse: bool = False) -> dict[bytes, bytes]:
+    """The values of a row's cells, by their families. The cells may come in descending order; the families don't."""
+    values = {family: value for _, family, value in entries if value is not None}
+    return dict(reversed(values.items())) if reverse else values

@@ -48,6 +48,7 @@ from duqishom.refusals import (
     UnknownSession,
     WrongPhase,
 )
+from duqishom.reverse import ReverseScan
 from duqishom.scans import RangeScan
 from duqishom.several import NEW, Commit, CommitDone, Read, Support, pieces_of, too_many_for_one
 
@@ -188,9 +189,19 @@ class Session:
         else:
             raise StillPending(*next(iter(locks.items())))
 
-    def scan(self, asked: CellRange, keys: bool, own: bool, limit: int | None, cells: int | None = None) -> RangeScan:
+    def scan(
+        self,
+        asked: CellRange,
+        keys: bool,
+        own: bool,
+        limit: int | None,
+        cells: int | None = None,
+        reverse: bool = False,
+    ) -> RangeScan | ReverseScan:
         """A scan of a range, which shows the writes that were made before it. Its first batch has so many cells."""
         writes = {cell: value for cell, value in self._writes.items() if asked.has(cell)} if own else {}
+        if reverse:
+            return ReverseScan(self, asked, keys, writes, limit, cells)
         return RangeScan(self, asked, keys, writes, limit, cells)
 
     def write(self, row: bytes, family: bytes, value: bytes | None) -> None:

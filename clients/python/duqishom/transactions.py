@@ -21,6 +21,7 @@ from duqishom.plans import (
 )
 from duqishom.program import ProgramEnded
 from duqishom.refusals import UnknownSession
+from duqishom.reverse import ReverseScan
 from duqishom.scans import RangeScan, Row, cells_of, checked_limit, rows_of, values_of_row
 from duqishom.sessions import MOST_WRITES, Session
 
@@ -89,11 +90,12 @@ class Snapshot:
         before: bytes | None = None,
         own: bool = True,
         limit: int | None = None,
+        reverse: bool = False,
     ) -> Iterator[Row]:
         """The rows of a range that have a value, in order, each with the dictionary that `row` gives. The range is that of `scan`.
-        With a limit, the first so many rows are given."""
+        With a limit, the first so many rows are given. With `reverse=True` the order is descending: the last row is the first."""
         asked, limit = range_of(start, end, prefix, None, after, before), checked_limit(limit)
-        return rows_of(self.entries(asked, False, None, own, cells_of(limit)), limit)
+        return rows_of(self.entries(asked, False, None, own, cells_of(limit), reverse), limit, reverse)
 
     @overload
     def scan(
@@ -108,6 +110,7 @@ class Snapshot:
         after: bytes | None = None,
         before: bytes | None = None,
         limit: int | None = None,
+        reverse: bool = False,
     ) -> Iterator[tuple[bytes, bytes, bytes]]: ...
 
     @overload
@@ -123,6 +126,7 @@ class Snapshot:
         after: bytes | None = None,
         before: bytes | None = None,
         limit: int | None = None,
+        reverse: bool = False,
     ) -> Iterator[tuple[bytes, bytes, None]]: ...
 
     def scan(
@@ -137,19 +141,22 @@ class Snapshot:
         after: bytes | None = None,
         before: bytes | None = None,
         limit: int | None = None,
+        reverse: bool = False,
     ) -> Iterator[Entry]:
         """The cells that have a value, in order, each as its row, its family and its value: what `get` gives for every cell of the
         range, without those that have nothing. With `keys=True` values aren't sent, and None stands in their places.
 
         The range goes from the row `start` up to the row `end`, both included, lies between the rows `after` and `before`, neither
         included, and has the rows that begin with a prefix, and one family, where these are given. With a limit, the first so many
-        cells are given. It is read in batches as the iterator goes on; all show the transaction's start. What the transaction had
-        written when `scan` was called is shown too, unless `own=False`. The locks of a batch are waited for together, and then
-        cleaned, as `get` does.
+        cells are given. With `reverse=True` the order is descending, by row and then by family, and so the last cell is the first.
+
+        The range is read in batches as the iterator goes on; all show the transaction's start. What the transaction had written
+        when `scan` was called is shown too, unless `own=False`. The locks of a batch are waited for together, and then cleaned, as
+        `get` does.
 
         BadRow or BadColumn at once, as the store would refuse it.
         """
-        return self.entries(range_of(start, end, prefix, family, after, before), keys, limit, own)
+        return self.entries(range_of(start, end, prefix, family, after, before), keys, limit, own, reverse=reverse)
 
     def count(
         self,
@@ -167,12 +174,18 @@ class Snapshot:
         return sum(1 for _ in self.entries(asked, True, None, own))
 
     def entries(
-        self, asked: CellRange, keys: bool, limit: int | None, own: bool = True, cells: int | None = None
+        self,
+        asked: CellRange,
+        keys: bool,
+        limit: int | None,
+        own: bool = True,
+        cells: int | None = None,
+        reverse: bool = False,
     ) -> Iterator[Entry]:
         """The cells of a range, as `scan` gives them. The first batch has so many."""
-        return self._pieces(self._session.scan(asked, keys, own, limit, cells))
+        return self._pieces(self._session.scan(asked, keys, own, limit, cells, reverse))
 
-    def _pieces(self, scan: RangeScan) -> Iterator[Entry]:
+    def _pieces(self, scan: RangeScan | ReverseScan) -> Iterator[Entry]:
         """The cells of a scan, piece by piece."""
         while piece := self._do(scan.piece()):
             yield from piece

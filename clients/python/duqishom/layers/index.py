@@ -57,15 +57,19 @@ class Index:
         """The same for `asyncio`."""
         await self.put_async(t, row, dict.fromkeys(await t.row(row)))
 
-    def rows(self, t: Snapshot | Store, *values: bytes, limit: int | None = None) -> Iterator[bytes]:
+    def rows(
+        self, t: Snapshot | Store, *values: bytes, limit: int | None = None, reverse: bool = False
+    ) -> Iterator[bytes]:
         """The rows that have these values in the first families, in the order of the values of the others, and then of
-        rows: of a transaction, or of a store as of now."""
-        for entry, _, _ in t.scan(prefix=pack((self._name, *values)), keys=True, limit=limit):
+        rows, or the other way round: of a transaction, or of a store as of now."""
+        for entry, _, _ in t.scan(prefix=pack((self._name, *values)), keys=True, limit=limit, reverse=reverse):
             yield unpack(entry)[-1]
 
-    async def rows_async(self, t: aio.Snapshot | aio.Store, *values: bytes, limit: int | None = None) -> AsyncIterator[bytes]:
+    async def rows_async(
+        self, t: aio.Snapshot | aio.Store, *values: bytes, limit: int | None = None, reverse: bool = False
+    ) -> AsyncIterator[bytes]:
         """The same for `asyncio`."""
-        async for entry, _, _ in t.scan(prefix=pack((self._name, *values)), keys=True, limit=limit):
+        async for entry, _, _ in t.scan(prefix=pack((self._name, *values)), keys=True, limit=limit, reverse=reverse):
             yield unpack(entry)[-1]
 
     def _cells(self, row: bytes) -> list[tuple[bytes, bytes]]:
