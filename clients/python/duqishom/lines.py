@@ -90,6 +90,7 @@ def add_scan(parser: argparse.ArgumentParser) -> None:
     add_range(parser)
     parser.add_argument("--keys", action="store_true", help="rows and families without values")
     parser.add_argument("--limit", metavar="N", type=number_of, help="so many cells at most")
+    parser.add_argument("--reverse", action="store_true", help="in descending order, the last cell first")
 
 
 class LineParser(argparse.ArgumentParser):

@@ -158,12 +158,15 @@ class Words:
         family: bytes | None,
         keys: bool,
         limit: int | None,
+        reverse: bool,
     ) -> ToldLines:
         """Reads the cells of a range, all as of one moment: a line for each."""
         if keys:
-            found: Iterator[Entry] = self._store.scan(start, end, prefix=prefix, family=family, keys=True, limit=limit)
+            found: Iterator[Entry] = self._store.scan(
+                start, end, prefix=prefix, family=family, keys=True, limit=limit, reverse=reverse
+            )
         else:
-            found = self._store.scan(start, end, prefix=prefix, family=family, limit=limit)
+            found = self._store.scan(start, end, prefix=prefix, family=family, limit=limit, reverse=reverse)
         return ToldLines(told_cells(found))
 
     def count(self, start: bytes | None, end: bytes | None, prefix: bytes | None, family: bytes | None) -> Told:

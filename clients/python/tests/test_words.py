@@ -190,9 +190,11 @@ class Words(unittest.TestCase):
             ("scan K L", "nothing"),
             ("in 9 stop", "refused 1: UnknownSession: session 9: it has ended, or never began"),
             ("scan --keys --limit 2", "B\\x00b bal\nBob bal"),
+            ("scan --reverse --limit 2", "Joe bal 2\nBob name Robert\\x20B."),
+            ("scan --keys --reverse Bob Bob", "Bob name\nBob bal"),
             (
                 "scan a b c",
-                "not done: the line is scan [--prefix ROW] [--family FAMILY] [--keys] [--limit N] [START] [END]",
+                "not done: the line is scan [--prefix ROW] [--family FAMILY] [--keys] [--limit N] [--reverse] [START] [END]",
             ),
             ("count --prefix", "not done: the line is count [--prefix ROW] [--family FAMILY] [START] [END]"),
             ("scan --family a:b", "refused 4: BadColumn: family b'a:b': 1 to 64 bytes of 21 to 7E without ':'"),
