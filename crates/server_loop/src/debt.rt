@@ -9,14 +9,16 @@ const BYTES_PER_CALL: u64 = 4 * 1024;
 /// its file doubles, so 16 are enough for 65,536 memtables.
 const BYTES_PER_BYTE: u64 = 16;
 
-/// Bytes owed for each file that was written, and for one that a merge has begun: a step, so that small files don't wait.
-const BYTES_PER_FILE: u64 = STEP_BYTES;
+/// Bytes owed for each file that was written, and for one that a merge has begun: 128 KiB, half a step, so that small
+/// files don't wait.
+const BYTES_PER_FILE: u64 = 128 * 1024;
 
 /// Bytes that are owed when a step is made: 256 KiB. A step's other work, a look at each tablet, is small beside them.
 const STEP_BYTES: u64 = 256 * 1024;
 
-/// The most bytes of one step: 1 MiB, so that no request waits long for one.
-const MOST_STEP_BYTES: u64 = 1024 * 1024;
+/// The most bytes that are owed: 1 MiB. So no request waits long for a step, and after a checkpoint of many tablets the
+/// merges of their files are spread over many requests.
+const MOST_BYTES: u64 = 1024 * 1024;
 
 /// The bytes that merges owe.
 #[derive(Clone, Copy)]
@@ -50,23 +52,19 @@ impl Debt {
             .owed
             .saturating_add(BYTES_PER_CALL)
             .saturating_add(grown.saturating_mul(BYTES_PER_BYTE))
-            .saturating_add(files.saturating_mul(BYTES_PER_FILE));
+            .saturating_add(files.saturating_mul(BYTES_PER_FILE))
+            .min(MOST_BYTES);
     }
 
-    /// The bytes of the next step, if enough are owed for one.
+    /// The bytes of the next step, if enough are owed for one. Then nothing is owed any more.
     pub(crate) fn pay(&mut self) -> Option<usize>
         ensures { IfSome result (λ bytes. 0 < bytes) }
     {
         if self.owed < STEP_BYTES {
             return None;
         }
-        let bytes = self.owed.min(MOST_STEP_BYTES);
-        self.owed -= bytes;
-        Some(bytes as usize)
-    }
-
-    /// Forgets what is owed, once there is nothing to merge.
-    pub(crate) fn forgive(&mut self) {
+        let bytes = self.owed as usize;
         self.owed = 0;
+        Some(bytes)
     }
 }

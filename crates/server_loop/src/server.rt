@@ -234,7 +234,6 @@ impl<F: Files + Drop, M: MarkStore + Drop> Server<F, M> {
             return;
         };
         if !cluster.merge_some(MergePolicy::Levels, bytes) {
-            self.tending.debt.forgive();
             self.note_merged();
         }
     }
