@@ -47,9 +47,9 @@ class Merges(FolderTest):
     def test_a_kill_within_a_merge_loses_nothing(self) -> None:
         """The file under way goes when the folder is opened again."""
         count = 0
-        for most in (230, 420):
+        for least in (150, 340):
             with self.opened(log=True) as store:
-                while count < most and (count < most - 80 or not self.is_merging()):
+                while count < least or (count < least + 300 and not self.is_merging()):
                     self.put(store, count)
                     count += 1
                 self.assertTrue(self.is_merging())
